@@ -1,0 +1,4 @@
+pub mod Coding
+pub mod Padded
+pub mod Passing
+pub mod Writes

@@ -1,0 +1,10 @@
+pub mod Books
+pub mod Checks
+pub mod Cuts
+pub mod Heads
+pub mod Known
+pub mod Plants
+pub mod Shapes
+pub mod Sizes
+pub mod Steps
+pub mod Whole

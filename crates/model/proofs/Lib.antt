@@ -1,0 +1,10 @@
+pub mod Ascents
+pub mod Bits
+pub mod Chosen
+pub mod Counting
+pub mod Goals
+pub mod Listing
+pub mod Naming
+pub mod Pictures
+pub mod Vocabularies
+pub mod Words
