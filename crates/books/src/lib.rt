@@ -1,4 +1,6 @@
 // The two kinds of rule tables: formulas about runs, written as tables of nodes, and charts, written as lines.
+#![tactic(auto)]
+
 pub mod chart;
 pub mod charts;
 mod fitting;

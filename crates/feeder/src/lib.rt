@@ -1,4 +1,6 @@
 // Feeder records: the bytes in which a utility keeps a feeder, read, checked and written back.
+#![tactic(auto)]
+
 pub mod header;
 mod heading;
 pub mod layout;

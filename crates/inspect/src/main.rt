@@ -1,5 +1,7 @@
 // Reads a feeder record from standard input, says in words what it holds, and writes it back;
 // or says under which number the input is refused.
+#![tactic(auto)]
+
 mod input;
 mod moves;
 mod page;

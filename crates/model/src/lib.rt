@@ -1,5 +1,7 @@
 // The vocabulary shared by all layers: facts and literals, atoms with terms, the predicates and objects of a feeder,
 // pictures (sets of facts) and goals.
+#![tactic(auto)]
+
 pub mod book;
 pub mod fact;
 pub mod facts;

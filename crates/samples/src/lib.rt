@@ -1,4 +1,6 @@
 // Sample records as tests: sound ones, damaged ones for each refusal, and the moves of some plants.
+#![tactic(auto)]
+
 ghost use Rattle.std.specs.Prelude.{◌≡◌, ℕ};
 ghost use Rattle.samples.specs.Numbers.{Numbered};
 

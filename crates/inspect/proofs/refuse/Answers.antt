@@ -20,9 +20,9 @@ pub returns : goal.returns
 returns c =
     let n = c.number.result in
     let page = vec_items c.args.page.now in
-    let ok = is_ok c.extend-from-slice.result in
+    let ok = is_ok c.extend_from_slice.result in
     let written = c.in-Ok.ensures in
-    c.extend-from-slice.ensures.items
+    c.extend_from_slice.ensures.items
     ∙ ap (λ (t : List ℕ). added page t ok)
     (front Short (refusal_line n) (replicate 12 0) (few n (omega arith)) _ _ written.answers written.after)
     ∙ ap (λ (m : ℕ). added page (refusal_line m) ok) c.number.ensures

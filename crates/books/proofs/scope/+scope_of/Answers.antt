@@ -7,13 +7,13 @@ use Rattle.books.specs.Trees.{binds, bound_once, formula_at, free}
 use Rattle.books.proofs.Scopes.{beside_scope, node_scope, proper_at}
 use Rattle.books.proofs.scope.+scope_of.Goals as goal
 
-pub of-terms-requires : goal.of-terms-requires
-of-terms-requires t c =
+pub of_terms-requires : goal.of_terms-requires
+of_terms-requires t c =
     proper_at c.args.nodes.now c.args.i c.requires.proper c.requires.within (Same c.in-Same.s c.in-Same.t)
     c.in-Same.is
 
-pub of-terms-requires-in-Atom : goal.of-terms-requires-in-Atom
-of-terms-requires-in-Atom t c =
+pub of_terms-requires-in-Atom : goal.of_terms-requires-in-Atom
+of_terms-requires-in-Atom t c =
     let at = proper_at c.args.nodes.now c.args.i c.requires.proper c.requires.within in
     ⊎_elim (at (Atom c.in-Atom.a)) (at (Goal c.in-Atom.a)) c.in-Atom.is
 
@@ -40,9 +40,9 @@ returns-in-True t c =
 pub returns-in-Atom : goal.returns-in-Atom
 unfolding free binds bound_once
 returns-in-Atom t c =
-    let at = node_scope c.args.nodes.now c.args.i c.of-terms-in-Atom.result c.requires.lower c.requires.within in
+    let at = node_scope c.args.nodes.now c.args.i c.of_terms-in-Atom.result c.requires.lower c.requires.within in
     let a = c.in-Atom.a in
-    let e = c.of-terms-in-Atom.ensures in
+    let e = c.of_terms-in-Atom.ensures in
     ⊎_elim
     (λ h. at (Atom a) h (record { free_marks = e.free; bound_marks = e.bound; once = e.sound }))
     (λ h. at (Goal a) h (record { free_marks = e.free; bound_marks = e.bound; once = e.sound }))
@@ -51,18 +51,18 @@ returns-in-Atom t c =
 pub returns-in-Same : goal.returns-in-Same
 unfolding free binds bound_once
 returns-in-Same t c =
-    let e = c.of-terms.ensures in
-    let at = node_scope c.args.nodes.now c.args.i c.of-terms.result c.requires.lower c.requires.within in
+    let e = c.of_terms.ensures in
+    let at = node_scope c.args.nodes.now c.args.i c.of_terms.result c.requires.lower c.requires.within in
     at (Same c.in-Same.s c.in-Same.t) c.in-Same.is (record { free_marks = e.free; bound_marks = e.bound; once = e.sound })
 
 pub returns-in-Not : goal.returns-in-Not
 unfolding free binds bound_once
 returns-in-Not t c =
-    let at = node_scope c.args.nodes.now c.args.i c.scope-of.result c.requires.lower c.requires.within in
+    let at = node_scope c.args.nodes.now c.args.i c.scope_of.result c.requires.lower c.requires.within in
     let a = c.in-Not.a in
-    let f = c.scope-of.ensures.free_marks in
-    let b = c.scope-of.ensures.bound_marks in
-    let o = c.scope-of.ensures.once in
+    let f = c.scope_of.ensures.free_marks in
+    let b = c.scope_of.ensures.bound_marks in
+    let o = c.scope_of.ensures.once in
     ⊎_elim
     (λ e. at (Not a) e (record { free_marks = f; bound_marks = b; once = o }))
     (⊎_elim
@@ -82,7 +82,7 @@ returns-in-And t c =
     let h = c.beside-in-And.ensures in
     let at = node_scope nodes c.args.i s c.requires.lower c.requires.within in
     let j =
-    beside_scope (formula_at nodes a) (formula_at nodes b) _ _ s c.scope-of-first.ensures c.scope-of-second.ensures
+    beside_scope (formula_at nodes a) (formula_at nodes b) _ _ s c.scope_of-first.ensures c.scope_of-second.ensures
     h.free h.bound h.sound
     in
     ⊎_elim
@@ -105,7 +105,7 @@ returns-in-ForAll t c =
     let range = formula_at nodes q.range in
     let body = formula_at nodes q.body in
     let j =
-    beside_scope range body _ _ c.beside.result c.scope-of-range.ensures c.scope-of-body.ensures
+    beside_scope range body _ _ c.beside.result c.scope_of-range.ensures c.scope_of-body.ensures
     h.free h.bound h.sound
     in
     let f = λ (x : ℕ). k.free x ∙ ap (λ (b : Bool). not (eqb v x) && b) (j.free_marks x) in

@@ -1,4 +1,4 @@
 use Rattle.books.proofs.scope.+scope_of.Given as goal
 
-abbrev pub decreases-scope-of : goal.decreases-scope-of
-decreases-scope-of l = l.i
+abbrev pub decreases-scope_of : goal.decreases-scope_of
+decreases-scope_of l = l.i

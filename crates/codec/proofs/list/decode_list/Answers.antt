@@ -31,7 +31,7 @@ returns-in-None g c =
     c.in-None.ensures n.0 n.2
     (sym (take_at (g.T.Coded.code n.0) _ w (g.met.T.Coded.fixed n.0 ∙ sym c.width-width.ensures))
     ∙ ap (λ (t : List ℕ). take w t) (sym n.3)
-    ∙ sym c.split-at.ensures.front)
+    ∙ sym c.split_at.ensures.front)
 
 pub loop-i-preserved : goal.loop-i-preserved
 loop-i-preserved g c =
@@ -39,14 +39,14 @@ loop-i-preserved g c =
     let items = c.loop-i.items in
     let x = c.in-Some.x in
     let code = g.T.Coded.code in
-    let back = c.split-at.result.1.now in
+    let back = c.split_at.result.1.now in
     let f = c.in-Some.ensures in
     let t : take (i + 1) (set items i x) ≡ take i items ++ (x ∷ []) = take_more_set items i x (omega arith) in (
       ap (λ (s : List g.row.T.Denot). flat_map code s ++ back) t
           ∙ ap (λ (s : List ℕ). s ++ back) (joined_push code (take i items) x)
           ∙ append_assoc (flat_map code (take i items)) (code x) back
           ∙ ap (λ (s : List ℕ). flat_map code (take i items) ++ (s ++ back)) f.0
-          ∙ ap (λ (s : List ℕ). flat_map code (take i items) ++ s) (sym c.split-at.ensures.by_index.0)
+          ∙ ap (λ (s : List ℕ). flat_map code (take i items) ++ s) (sym c.split_at.ensures.by_index.0)
           ∙ c.loop-i.invariant.0,
       subst (λ (s : List g.row.T.Denot). every g.T.Coded.proper s ≡ true) (sym t) (every_push g.T.Coded.proper (take i items) x c.loop-i.invariant.1 f.1),
     )
@@ -74,4 +74,4 @@ returns g c =
           eqb-false (length rest) 0 (sym z) (omega (arith, k items, k xs))
     ]
     in
-    answer c.is-empty.result c.is-empty.ensures
+    answer c.is_empty.result c.is_empty.ensures

@@ -14,13 +14,13 @@ within w i n h = let a : w * (i + 1) ≤ w * n = mul-le-mul_left w (omega arith)
 room : (w size at i n long : ℕ) → w ≡ size → at ≡ size * i → i < n → long ≡ w * n → at + w ≤ long
 room w size at i n long e a h l = let s : size * i ≡ w * i = ap (λ (k : ℕ). k * i) (sym e) in omega (arith, within w i n h)
 
-pub overflow-add-end : goal.overflow-add-end
-overflow-add-end g c =
+pub overflow_add-end : goal.overflow_add-end
+overflow_add-end g c =
     let r = room c.width-width.result _ _ _ _ _ c.width-width.ensures c.loop-i.invariant.0 c.loop-i-test.true c.in-Some.ensures.1 in
     omega arith
 
-pub slice-bounds-encode-end : goal.slice-bounds-encode-end
-slice-bounds-encode-end g c =
+pub slice_bounds-encode-end : goal.slice_bounds-encode-end
+slice_bounds-encode-end g c =
     let r = room c.width-width.result _ _ _ _ _ c.width-width.ensures c.loop-i.invariant.0 c.loop-i-test.true c.in-Some.ensures.1 in
     search rules
 

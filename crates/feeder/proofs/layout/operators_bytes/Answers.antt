@@ -14,22 +14,22 @@ returns-then-rest-lt3 c =
 
 pub returns-then-rest-own : goal.returns-then-rest-own
 returns-then-rest-own c =
-    omega (arith, size_step c.args.rows c.loop.counter c.loop.rest.now c.loop-test.true, c.operator-bytes-own.ensures.size)
+    omega (arith, size_step c.args.rows c.loop.counter c.loop.rest.now c.loop-test.true, c.operator_bytes-own.ensures.size)
 
 pub loop-preserved : goal.loop-preserved
 loop-preserved c =
     let rest = c.loop.rest.now in
-    let own = c.operator-bytes-own.result in
+    let own = c.operator_bytes-own.result in
     let left = take (length rest - own) (drop own rest) in
     let e : left ≡ drop own rest = take_rest rest own in
     let n : ℕ = c.args.rows - (c.loop.counter + 1) in
     let o : operators_size n left ≡ operators_size n (drop (operator_size rest) rest) =
-    ap (operators_size n) e ∙ ap (λ (k : ℕ). operators_size n (drop k rest)) c.operator-bytes-own.ensures.size
+    ap (operators_size n) e ∙ ap (λ (k : ℕ). operators_size n (drop k rest)) c.operator_bytes-own.ensures.size
     in
     let s = size_step c.args.rows c.loop.counter rest c.loop-test.true in (
       omega (arith, ap length e ∙ length-drop own rest),
-      omega (arith, c.operator-bytes-own.ensures.size),
-      omega (arith, c.operator-bytes-own.ensures.bound),
+      omega (arith, c.operator_bytes-own.ensures.size),
+      omega (arith, c.operator_bytes-own.ensures.bound),
     )
 
 pub returns : goal.returns

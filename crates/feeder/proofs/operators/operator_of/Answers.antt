@@ -23,4 +23,4 @@ returns c =
     let bytes = c.args.bytes.now in
     let n : ℕ = get_or bytes 1 0 + get_or bytes 2 0 in
     let l : length (take (n - 0) c.padded-places.result) ≡ n - 0 = length-take-le (n - 0) c.padded-places.result (omega arith) in
-    whole_operator bytes _ _ c.operator-from.result c.if-bytes-lt3.false (take_rest bytes 3) (omega arith) c.operator-from.ensures
+    whole_operator bytes _ _ c.operator_from.result c.if-bytes-lt3.false (take_rest bytes 3) (omega arith) c.operator_from.ensures

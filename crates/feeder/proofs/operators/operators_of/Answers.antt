@@ -30,7 +30,7 @@ returns-then-rest-own c =
     λ xs l e q.
     let n = next c.loop-i.items xs c.loop-i.i c.loop-i.rest.now _ (omega arith) (omega arith) e q c.loop-i.invariant.0 c.loop-i.invariant.1 in
     let b = begins n.0 _ c.loop-i.rest.now n.3 in
-    omega (arith, ap length (sym n.3) ∙ length-append (operator_bytes n.0) _, b.size, c.operator-bytes-own.ensures.size)
+    omega (arith, ap length (sym n.3) ∙ length-append (operator_bytes n.0) _, b.size, c.operator_bytes-own.ensures.size)
 
 pub returns-in-None : goal.returns-in-None
 returns-in-None c =
@@ -38,25 +38,25 @@ returns-in-None c =
     let rest = c.loop-i.rest.now in
     let n = next c.loop-i.items xs c.loop-i.i rest _ (omega arith) (omega arith) e q c.loop-i.invariant.0 c.loop-i.invariant.1 in
     let b = begins n.0 _ rest n.3 in
-    let own = c.operator-bytes-own.result in
+    let own = c.operator_bytes-own.result in
     c.in-None.ensures n.0 n.2
-    (sym (take_at (operator_bytes n.0) _ own (sym b.size ∙ sym c.operator-bytes-own.ensures.size))
+    (sym (take_at (operator_bytes n.0) _ own (sym b.size ∙ sym c.operator_bytes-own.ensures.size))
     ∙ ap (λ (t : List ℕ). take own t) n.3
-    ∙ sym c.split-at.ensures.front)
+    ∙ sym c.split_at.ensures.front)
 
 pub loop-i-preserved : goal.loop-i-preserved
 loop-i-preserved c =
     let i = c.loop-i.i in
     let items = c.loop-i.items in
     let op = c.in-Some.op in
-    let back = c.split-at.result.1.now in
+    let back = c.split_at.result.1.now in
     let f = c.in-Some.ensures in
     let t : take (i + 1) (set items i op) ≡ take i items ++ (op ∷ []) = take_more_set items i op (omega arith) in (
       ap (λ (s : List Operator). flat_map operator_bytes s ++ back) t
           ∙ ap (λ (s : List ℕ). s ++ back) (joined_push operator_bytes (take i items) op)
           ∙ append_assoc (flat_map operator_bytes (take i items)) (operator_bytes op) back
           ∙ ap (λ (s : List ℕ). flat_map operator_bytes (take i items) ++ (s ++ back)) f.0
-          ∙ ap (λ (s : List ℕ). flat_map operator_bytes (take i items) ++ s) (sym c.split-at.ensures.by_index.0)
+          ∙ ap (λ (s : List ℕ). flat_map operator_bytes (take i items) ++ s) (sym c.split_at.ensures.by_index.0)
           ∙ c.loop-i.invariant.0,
       subst (λ (s : List Operator). every operator_holds s ≡ true) (sym t) (every_push operator_holds (take i items) op c.loop-i.invariant.1 f.1),
     )
@@ -81,4 +81,4 @@ returns c =
           eqb-false (length rest) 0 (sym z) (ap length (operators_known items xs rest (omega arith) e p (v ∙ sym q)).1)
     ]
     in
-    answer c.is-empty.result c.is-empty.ensures
+    answer c.is_empty.result c.is_empty.ensures

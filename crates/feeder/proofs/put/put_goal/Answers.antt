@@ -6,8 +6,8 @@ use Rattle.std.specs.List.{flat_map}
 use Rattle.feeder.proofs.Known.{every_any}
 use Rattle.feeder.proofs.put.put_goal.Goals as goal
 
-pub put-list-requires : goal.put-list-requires
-put-list-requires c =
+pub put_list-requires : goal.put_list-requires
+put_list-requires c =
     let t = c.args.goal.now in
     let s : take (t.count - 0) t.literals ≡ take t.count t.literals = ap (λ (k : ℕ). take k t.literals) (sub-zero t.count) in
     record {

@@ -20,14 +20,14 @@ encoded : {A : Type 0} (code : A → List ℕ) (proper : A → Bool) (size : ℕ
 encoded code proper size items before after true e l p = e p
 encoded code proper size items before after false e l p = absurd (e.0 l)
 
-pub overflow-mul-end : goal.overflow-mul-end
-overflow-mul-end g c = omega (arith, long g c.args.items.now c.width.result c.width.ensures, c.requires.room)
+pub overflow_mul-end : goal.overflow_mul-end
+overflow_mul-end g c = omega (arith, long g c.args.items.now c.width.result c.width.ensures, c.requires.room)
 
-pub overflow-add-end : goal.overflow-add-end
-overflow-add-end g c = omega (arith, long g c.args.items.now c.width.result c.width.ensures, c.requires.room)
+pub overflow_add-end : goal.overflow_add-end
+overflow_add-end g c = omega (arith, long g c.args.items.now c.width.result c.width.ensures, c.requires.room)
 
-pub slice-bounds-encode-list-end : goal.slice-bounds-encode-list-end
-slice-bounds-encode-list-end g c =
+pub slice_bounds-encode_list-end : goal.slice_bounds-encode_list-end
+slice_bounds-encode_list-end g c =
     let l = long g c.args.items.now c.width.result c.width.ensures in
     let r = c.requires.room in
     let e : c.args.at + c.width.result * length c.args.items.now ≤ length c.args.out.now = omega arith in
@@ -45,12 +45,12 @@ returns g c =
     let part : length (take n (drop at out)) ≡ g.T.Coded.size * length items =
     length-take-le n (drop at out) (omega (arith, length-drop at out, c.requires.room)) ∙ w ∙ ap (λ (k : ℕ). k * length items) c.width.ensures
     in
-    let e : c.encode-list.new.out ≡ flat_map code items =
-    encoded code g.T.Coded.proper g.T.Coded.size items _ _ c.encode-list.result c.encode-list.ensures part c.requires.held
+    let e : c.encode_list.new.out ≡ flat_map code items =
+    encoded code g.T.Coded.proper g.T.Coded.size items _ _ c.encode_list.result c.encode_list.ensures part c.requires.held
     in
     record {
       next = ap (λ (k : ℕ). at + k) l;
       after =
-          put_mid-paste at n out c.encode-list.new.out (flat_map code items) (length (flat_map code items)) e (sym l ∙ sym w) refl
+          put_mid-paste at n out c.encode_list.new.out (flat_map code items) (length (flat_map code items)) e (sym l ∙ sym w) refl
           ∙ as_paste out at (flat_map code items);
     }

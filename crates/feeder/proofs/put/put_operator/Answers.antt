@@ -17,14 +17,14 @@ returns c =
     let n : ℕ = op.preconditions + op.effects in
     let literals = flat_map lifted_bytes (operator_literals op) in
     let same : flat_map lifted_bytes (take (n - 0) op.literals) ≡ literals = ap (λ (k : ℕ). flat_map lifted_bytes (take k op.literals)) (sub-zero n) in
-    let first : put_mid at (at + 3 - at) out c.copy-from-slice.new.self ≡ written out at (operator_head op) =
-    put_mid-paste at _ out c.copy-from-slice.new.self (operator_head op) 3 (c.copy-from-slice.ensures.after ∙ c.head-head.ensures) (omega arith) refl
+    let first : put_mid at (at + 3 - at) out c.copy_from_slice.new.self ≡ written out at (operator_head op) =
+    put_mid-paste at _ out c.copy_from_slice.new.self (operator_head op) 3 (c.copy_from_slice.ensures.after ∙ c.head-head.ensures) (omega arith) refl
     ∙ as_paste out at (operator_head op)
     in
     record {
-      next = omega (arith, c.put-list.ensures.next, ap length same);
+      next = omega (arith, c.put_list.ensures.next, ap length same);
       after =
-          c.put-list.ensures.after
+          c.put_list.ensures.after
           ∙ ap (λ (o : List ℕ). written o (at + 3) (flat_map lifted_bytes (take (n - 0) op.literals))) first
           ∙ ap (λ (t : List ℕ). written (written out at (operator_head op)) (at + 3) t) same
           ∙ written_more out at (operator_head op) literals (omega (arith, c.requires.room));

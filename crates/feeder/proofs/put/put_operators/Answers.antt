@@ -12,8 +12,8 @@ use Rattle.feeder.proofs.put.put_operators.Goals as goal
 pub loop-op-init : goal.loop-op-init
 loop-op-init c = (sym (add-zero c.args.at), written_none c.args.out.now c.args.at)
 
-pub put-operator-next-requires : goal.put-operator-next-requires
-put-operator-next-requires c =
+pub put_operator-next-requires : goal.put_operator-next-requires
+put_operator-next-requires c =
     let ops = c.args.operators.now in
     let i = c.loop-op.op-index in
     let op = c.op-item.result in
@@ -33,8 +33,8 @@ loop-op-preserved c =
     let op = c.op-item.result in
     let done = flat_map operator_bytes (take i ops) in
     let e = joined_more operator_bytes ops i op c.loop-op-test.true c.op-item.is in (
-      omega (arith, c.put-operator-next.ensures.next, c.loop-op.invariant.0, ap length e ∙ length-append done (operator_bytes op)),
-      c.put-operator-next.ensures.after
+      omega (arith, c.put_operator-next.ensures.next, c.loop-op.invariant.0, ap length e ∙ length-append done (operator_bytes op)),
+      c.put_operator-next.ensures.after
           ∙ ap (λ (o : List ℕ). written o c.loop-op.next (operator_bytes op)) c.loop-op.invariant.1
           ∙ ap (λ (k : ℕ). written (written out at done) k (operator_bytes op)) c.loop-op.invariant.0
           ∙ written_more out at done (operator_bytes op) (omega (arith, c.requires.room))

@@ -16,8 +16,8 @@ listed : (l : FactList) (ns : List ℕ) → fact_numbers (fact_list l) ≡ ns �
 listed l ns e =
     ap (λ (k : ℕ). flat_map fact_bytes (take k l.facts)) (sub-zero l.count) ∙ fact_codes (fact_list l) ∙ ap (flat_map word_bytes) e
 
-pub put-list-requires : goal.put-list-requires
-put-list-requires c =
+pub put_list-requires : goal.put_list-requires
+put_list-requires c =
     let l = c.members-members.result in
     let e = listed l _ c.members-members.ensures.same in
     record { held = every_any (take (l.count - 0) l.facts); room = omega (arith, c.requires, ap length e) }
@@ -26,6 +26,6 @@ pub returns : goal.returns
 returns c =
     let e = listed c.members-members.result _ c.members-members.ensures.same in
     record {
-      next = c.put-list.ensures.next ∙ ap (λ (t : List ℕ). c.args.at + length t) e;
-      after = c.put-list.ensures.after ∙ ap (λ (t : List ℕ). written c.args.out.now c.args.at t) e;
+      next = c.put_list.ensures.next ∙ ap (λ (t : List ℕ). c.args.at + length t) e;
+      after = c.put_list.ensures.after ∙ ap (λ (t : List ℕ). written c.args.out.now c.args.at t) e;
     }

@@ -29,8 +29,8 @@ network_long p w e =
     ∙ length-append (flat_map switch_bytes (switch_list w)) (word_bytes w.fed)
     ∙ ap (λ (s : List Switch). length (flat_map switch_bytes s) + 2) (sym (cut_switches w))
 
-pub put-operators-requires : goal.put-operators-requires
-put-operators-requires c =
+pub put_operators-requires : goal.put_operators-requires
+put_operators-requires c =
     let t = c.in-Actions.table in
     let s : take (t.count - 0) t.operators ≡ take t.count t.operators = ap (λ (k : ℕ). take k t.operators) (sub-zero t.count) in
     record {
@@ -43,16 +43,16 @@ put-operators-requires c =
       );
     }
 
-pub put-list-next-requires : goal.put-list-next-requires
-put-list-next-requires c =
+pub put_list-next-requires : goal.put_list-next-requires
+put_list-next-requires c =
     let w = c.in-Network.network in
     record {
       held = every_any (take (w.count - 0) w.switches);
       room = omega (arith, c.requires, network_long c.args.plant.now w (ap plant_bytes c.in-Network.is));
     }
 
-pub put-list-requires : goal.put-list-requires
-put-list-requires c =
+pub put_list-requires : goal.put_list-requires
+put_list-requires c =
     let w = c.in-Network.network in
     let l = network_long c.args.plant.now w (ap plant_bytes c.in-Network.is) in
     let codes = flat_map switch_bytes (take (w.count - 0) w.switches) in
@@ -62,8 +62,8 @@ put-list-requires c =
         arith,
         c.requires,
         l,
-        c.put-list-next.ensures.next,
-        ap length c.put-list-next.ensures.after ∙ length_written c.args.out.now c.args.at codes (omega (arith, c.requires, l)),
+        c.put_list-next.ensures.next,
+        ap length c.put_list-next.ensures.after ∙ length_written c.args.out.now c.args.at codes (omega (arith, c.requires, l)),
       );
     }
 
@@ -76,11 +76,11 @@ returns-in-Network c =
     let l = network_long c.args.plant.now w e in
     let codes = flat_map switch_bytes (take (w.count - 0) w.switches) in
     record {
-      next = omega (arith, c.put-list.ensures.next, c.put-list-next.ensures.next, l);
+      next = omega (arith, c.put_list.ensures.next, c.put_list-next.ensures.next, l);
       after =
-          c.put-list.ensures.after
-          ∙ ap (λ (o : List ℕ). written o c.put-list-next.result (word_bytes w.fed)) c.put-list-next.ensures.after
-          ∙ ap (λ (k : ℕ). written (written out at codes) k (word_bytes w.fed)) c.put-list-next.ensures.next
+          c.put_list.ensures.after
+          ∙ ap (λ (o : List ℕ). written o c.put_list-next.result (word_bytes w.fed)) c.put_list-next.ensures.after
+          ∙ ap (λ (k : ℕ). written (written out at codes) k (word_bytes w.fed)) c.put_list-next.ensures.next
           ∙ written_more out at codes (word_bytes w.fed) (omega (arith, c.requires))
           ∙ ap (λ (s : List Switch). written out at (flat_map switch_bytes s ++ word_bytes w.fed)) (cut_switches w)
           ∙ ap (λ (t : List ℕ). written out at t) (sym e);

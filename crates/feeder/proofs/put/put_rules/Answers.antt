@@ -12,8 +12,8 @@ use Rattle.feeder.proofs.Books.{nodes_proper}
 use Rattle.feeder.proofs.Known.{every_any}
 use Rattle.feeder.proofs.put.put_rules.Goals as goal
 
-pub put-list-requires : goal.put-list-requires
-put-list-requires c =
+pub put_list-requires : goal.put_list-requires
+put_list-requires c =
     let t = c.in-Formula.table in
     let s : take (t.count - 0) t.nodes ≡ take t.count t.nodes = ap (λ (k : ℕ). take k t.nodes) (sub-zero t.count) in
     record {
@@ -26,8 +26,8 @@ put-list-requires c =
       );
     }
 
-pub put-list-requires-in-Chart : goal.put-list-requires-in-Chart
-put-list-requires-in-Chart c =
+pub put_list-requires-in-Chart : goal.put_list-requires-in-Chart
+put_list-requires-in-Chart c =
     let t = c.in-Chart.chart in
     let s : take (t.count - 0) t.lines ≡ take t.count t.lines = ap (λ (k : ℕ). take k t.lines) (sub-zero t.count) in
     record {

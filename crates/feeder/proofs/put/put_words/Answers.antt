@@ -6,8 +6,8 @@ use Rattle.std.specs.List.{flat_map}
 use Rattle.feeder.proofs.Known.{every_any}
 use Rattle.feeder.proofs.put.put_words.Goals as goal
 
-pub put-list-requires : goal.put-list-requires
-put-list-requires c =
+pub put_list-requires : goal.put_list-requires
+put_list-requires c =
     let t = c.args.vocabulary.now in
     let s : take (t.predicates - 0) t.arities ≡ take t.predicates t.arities = ap (λ (k : ℕ). take k t.arities) (sub-zero t.predicates) in
     record {

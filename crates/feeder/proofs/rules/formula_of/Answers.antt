@@ -8,19 +8,19 @@ use Rattle.model.specs.declared.vocabulary.Vocabulary.{Vocabulary}
 use Rattle.feeder.proofs.Books.{as_formula, node_size, nodes_known, nodes_proper}
 use Rattle.feeder.proofs.rules.formula_of.Goals as goal
 
-pub returns-then-not-decode-list : goal.returns-then-not-decode-list
-returns-then-not-decode-list c =
+pub returns-then-not-decode_list : goal.returns-then-not-decode_list
+returns-then-not-decode_list c =
     λ r f.
     let a = as_formula c.args.header.now c.args.vocabulary.now _ r c.requires.kind f in
     let t = a.0 in
-    c.if-not-decode-list.ensures (node_list t)
+    c.if-not-decode_list.ensures (node_list t)
     (count_known node_bytes node_proper 4 node_size (node_list t) _ _ (omega arith) c.requires.size (sym a.3))
     (nodes_proper t) (sym a.3)
 
 pub returns-in-None : goal.returns-in-None
 returns-in-None c =
-    let items = c.decode-list.new.items in
-    let read = c.if-not-decode-list.ensures in
+    let items = c.decode_list.new.items in
+    let read = c.if-not-decode_list.ensures in
     λ r f.
     let a = as_formula c.args.header.now c.args.vocabulary.now _ r c.requires.kind f in
     let t = a.0 in

@@ -9,15 +9,15 @@ use Rattle.feeder.proofs.start.all_may_be_first.Goals as goal
 abbrev first_test : Header → ℕ → Fact → Bool
 first_test h total f = may_be_first h.plant total h.objects h.rows f.number
 
-pub returns-then-not-may-be-first : goal.returns-then-not-may-be-first
-returns-then-not-may-be-first c =
+pub returns-then-not-may_be_first : goal.returns-then-not-may_be_first
+returns-then-not-may_be_first c =
     sym (one_failed (first_test c.args.header.now c.args.total) c.args.facts.now blank_fact c.loop-f.f-index c.loop-f-test.true
-    (sym c.if-not-may-be-first.ensures))
+    (sym c.if-not-may_be_first.ensures))
 
 pub loop-f-preserved : goal.loop-f-preserved
 loop-f-preserved c =
     tried_more (first_test c.args.header.now c.args.total) c.args.facts.now blank_fact c.loop-f.f-index c.loop-f-test.true
-    c.loop-f.invariant (sym c.if-not-may-be-first.ensures)
+    c.loop-f.invariant (sym c.if-not-may_be_first.ensures)
 
 pub returns : goal.returns
 returns c =

@@ -21,20 +21,20 @@ test h total f = may_be_first h.plant total h.objects h.rows f
 same_numbers : (facts : List Fact) (ns bytes : List ℕ) → flat_map fact_bytes facts ≡ bytes → bytes ≡ flat_map word_bytes ns → fact_numbers facts ≡ ns
 same_numbers facts ns bytes e f = words_list_known (fact_numbers facts) ns (sym (fact_codes facts) ∙ e ∙ f)
 
-pub returns-then-not-decode-list : goal.returns-then-not-decode-list
-returns-then-not-decode-list c =
+pub returns-then-not-decode_list : goal.returns-then-not-decode_list
+returns-then-not-decode_list c =
     λ p f.
     let xs = as_facts (members p) in
     let e = as_facts_codes (members p) ∙ sym f.same in
-    c.if-not-decode-list.ensures xs
+    c.if-not-decode_list.ensures xs
     (count_known fact_bytes (λ _. true) 2 (λ l. refl) xs _ _ (omega arith) c.requires.room e)
     (every_any xs) e
 
-pub returns-in-default : goal.returns-in-default
-returns-in-default c =
+pub returns-in_default : goal.returns-in_default
+returns-in_default c =
     λ p f.
-    c.in-default.ensures
-    (subst SoundFacts (sym (same_numbers _ (members p) _ c.if-not-decode-list.ensures.0 f.same)) (members_sound p))
+    c.in_default.ensures
+    (subst SoundFacts (sym (same_numbers _ (members p) _ c.if-not-decode_list.ensures.0 f.same)) (members_sound p))
 
 -- what the code tested, as the definitions have it
 tested : (h : Header) (total total' : ℕ) (facts : List Fact) (r b : Bool) → total ≡ total' → r ≡ every (λ f. test h total f.number) facts → r ≡ b
@@ -42,25 +42,25 @@ tested : (h : Header) (total total' : ℕ) (facts : List Fact) (r b : Bool) → 
 tested h total total' facts r b e q z =
     every_number (test h total') facts ∙ ap (λ (n : ℕ). every (λ f. test h n f.number) facts) (sym e) ∙ sym q ∙ z
 
-pub returns-then-all-may-be-first : goal.returns-then-all-may-be-first
-returns-then-all-may-be-first c =
+pub returns-then-all_may_be_first : goal.returns-then-all_may_be_first
+returns-then-all_may_be_first c =
     let h = c.args.header.now in
-    let items = c.decode-list.new.items in
+    let items = c.decode_list.new.items in
     let made = c.in-Some.ensures in
     record {
       suits =
           ap (every (test h (fact_total c.args.vocabulary.now))) made
-          ∙ tested h _ _ items _ _ c.facts.ensures c.all-may-be-first.ensures c.if-all-may-be-first.true;
-      same = sym c.if-not-decode-list.ensures.0 ∙ fact_codes items ∙ ap (flat_map word_bytes) (sym made);
+          ∙ tested h _ _ items _ _ c.facts.ensures c.all_may_be_first.ensures c.if-all_may_be_first.true;
+      same = sym c.if-not-decode_list.ensures.0 ∙ fact_codes items ∙ ap (flat_map word_bytes) (sym made);
     }
 
-pub returns-else-all-may-be-first : goal.returns-else-all-may-be-first
-returns-else-all-may-be-first c =
+pub returns-else-all_may_be_first : goal.returns-else-all_may_be_first
+returns-else-all_may_be_first c =
     let h = c.args.header.now in
     let v = c.args.vocabulary.now in
-    let items = c.decode-list.new.items in
+    let items = c.decode_list.new.items in
     λ p f.
-    let e = same_numbers items (members p) _ c.if-not-decode-list.ensures.0 f.same in
+    let e = same_numbers items (members p) _ c.if-not-decode_list.ensures.0 f.same in
     both_ways (every (test h (fact_total v)) (fact_numbers items))
-    (tested h _ _ items _ _ c.facts.ensures c.all-may-be-first.ensures c.if-all-may-be-first.false)
+    (tested h _ _ items _ _ c.facts.ensures c.all_may_be_first.ensures c.if-all_may_be_first.false)
     (ap (every (test h (fact_total v))) e ∙ f.suits)

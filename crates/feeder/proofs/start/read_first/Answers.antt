@@ -29,5 +29,5 @@ returns-in-None c =
       fails = none_with bytes h v (HasFirst bytes) c.requires.head c.requires.words (read_same (SuitFirst h v) picture_bytes _ _ None cut c.in-None.ensures);
     }
 
-pub slice-bounds-places-end : goal.slice-bounds-places-end
-slice-bounds-places-end c = let l = (limits_of c.args.header.now c.requires.head.suits).first in search rules
+pub slice_bounds-places-end : goal.slice_bounds-places-end
+slice_bounds-places-end c = let l = (limits_of c.args.header.now c.requires.head.suits).first in search rules

@@ -12,19 +12,19 @@ use Rattle.feeder.proofs.words.words_of.Goals as goal
 abbrev code : Arity → List ℕ
 code a = arity_byte a ∷ []
 
-pub returns-then-not-decode-list : goal.returns-then-not-decode-list
-returns-then-not-decode-list c =
+pub returns-then-not-decode_list : goal.returns-then-not-decode_list
+returns-then-not-decode_list c =
     λ v f.
-    c.if-not-decode-list.ensures (arity_list v)
+    c.if-not-decode_list.ensures (arity_list v)
     (count_known code (λ _. true) 1 (λ a. refl) (arity_list v) _ _ (omega arith) (omega (arith, c.requires)) (sym f.same))
     (every_any (arity_list v)) (sym f.same)
 
-pub returns-in-default : goal.returns-in-default
-returns-in-default c =
-    let items = c.decode-list.new.items in
+pub returns-in_default : goal.returns-in_default
+returns-in_default c =
+    let items = c.decode_list.new.items in
     λ v f.
-    let e : arity_list v ≡ items = arities_known (arity_list v) items (sym f.same ∙ sym c.if-not-decode-list.ensures.0) in
-    c.in-default.ensures
+    let e : arity_list v ≡ items = arities_known (arity_list v) items (sym f.same ∙ sym c.if-not-decode_list.ensures.0) in
+    c.in_default.ensures
     (subst (SoundVocabulary c.args.header.now.objects) e
     (subst (λ (n : ℕ). SoundVocabulary n (arity_list v)) f.suits.objects (vocabulary_sound v)))
 
@@ -33,7 +33,7 @@ returns-then-suits c =
     let made = c.in-Some.ensures in
     record {
       suits = record { objects = made.0; kind = c.if-suits.ensures };
-      same = sym c.if-not-decode-list.ensures.0 ∙ ap (flat_map code) (sym made.1);
+      same = sym c.if-not-decode_list.ensures.0 ∙ ap (flat_map code) (sym made.1);
     }
 
 pub returns-else-suits : goal.returns-else-suits
@@ -42,6 +42,6 @@ returns-else-suits c =
     let made = c.in-Some.ensures in
     λ w f.
     let e : arity_list w ≡ arity_list v =
-    arities_known (arity_list w) _ (sym f.same ∙ sym c.if-not-decode-list.ensures.0) ∙ sym made.1
+    arities_known (arity_list w) _ (sym f.same ∙ sym c.if-not-decode_list.ensures.0) ∙ sym made.1
     in
     c.if-suits.ensures (subst (KindWords c.args.header.now.plant) e f.suits.kind)

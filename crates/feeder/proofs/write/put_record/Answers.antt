@@ -14,84 +14,84 @@ use Rattle.feeder.proofs.write.put_record.Goals as goal
 words_same : (v w : Vocabulary) → v ≡ w → length (arity_bytes v) ≡ length (arity_bytes w)
 words_same v w e = ap (λ (u : Vocabulary). length (arity_bytes u)) e
 
-pub put-header-at-requires : goal.put-header-at-requires
-put-header-at-requires c =
+pub put_header-at-requires : goal.put_header-at-requires
+put_header-at-requires c =
     let f = c.args.feeder.now in
     record { held = ap within_limits c.header.ensures ∙ limits f; room = omega (arith, c.requires, encode_long f) }
 
-pub put-words-at-requires : goal.put-words-at-requires
-put-words-at-requires c =
+pub put_words-at-requires : goal.put_words-at-requires
+put_words-at-requires c =
     omega (
       arith,
       c.requires,
       encode_long c.args.feeder.now,
       words_same _ _ c.vocabulary-vocabulary.ensures,
-      c.put-header-at.ensures.next,
-      c.put-header-at.auto.out,
+      c.put_header-at.ensures.next,
+      c.put_header-at.auto.out,
     )
 
-pub put-plant-at-requires : goal.put-plant-at-requires
-put-plant-at-requires c =
+pub put_plant-at-requires : goal.put_plant-at-requires
+put_plant-at-requires c =
     omega (
       arith,
       c.requires,
       encode_long c.args.feeder.now,
       words_same _ _ c.vocabulary-vocabulary.ensures,
-      c.put-header-at.ensures.next,
-      c.put-words-at.ensures.next,
-      c.put-header-at.auto.out,
-      c.put-words-at.auto.out,
+      c.put_header-at.ensures.next,
+      c.put_words-at.ensures.next,
+      c.put_header-at.auto.out,
+      c.put_words-at.auto.out,
     )
 
-pub put-picture-at-requires : goal.put-picture-at-requires
-put-picture-at-requires c =
+pub put_picture-at-requires : goal.put_picture-at-requires
+put_picture-at-requires c =
     omega (
       arith,
       c.requires,
       encode_long c.args.feeder.now,
       words_same _ _ c.vocabulary-vocabulary.ensures,
-      c.put-header-at.ensures.next,
-      c.put-words-at.ensures.next,
-      c.put-plant-at.ensures.next,
-      c.put-header-at.auto.out,
-      c.put-words-at.auto.out,
-      c.put-plant-at.auto.out,
+      c.put_header-at.ensures.next,
+      c.put_words-at.ensures.next,
+      c.put_plant-at.ensures.next,
+      c.put_header-at.auto.out,
+      c.put_words-at.auto.out,
+      c.put_plant-at.auto.out,
     )
 
-pub put-goal-at-requires : goal.put-goal-at-requires
-put-goal-at-requires c =
+pub put_goal-at-requires : goal.put_goal-at-requires
+put_goal-at-requires c =
     omega (
       arith,
       c.requires,
       encode_long c.args.feeder.now,
       words_same _ _ c.vocabulary-vocabulary.ensures,
-      c.put-header-at.ensures.next,
-      c.put-words-at.ensures.next,
-      c.put-plant-at.ensures.next,
-      c.put-picture-at.ensures.next,
-      c.put-header-at.auto.out,
-      c.put-words-at.auto.out,
-      c.put-plant-at.auto.out,
-      c.put-picture-at.auto.out,
+      c.put_header-at.ensures.next,
+      c.put_words-at.ensures.next,
+      c.put_plant-at.ensures.next,
+      c.put_picture-at.ensures.next,
+      c.put_header-at.auto.out,
+      c.put_words-at.auto.out,
+      c.put_plant-at.auto.out,
+      c.put_picture-at.auto.out,
     )
 
-pub put-rules-requires : goal.put-rules-requires
-put-rules-requires c =
+pub put_rules-requires : goal.put_rules-requires
+put_rules-requires c =
     omega (
       arith,
       c.requires,
       encode_long c.args.feeder.now,
       words_same _ _ c.vocabulary-vocabulary.ensures,
-      c.put-header-at.ensures.next,
-      c.put-words-at.ensures.next,
-      c.put-plant-at.ensures.next,
-      c.put-picture-at.ensures.next,
-      c.put-goal-at.ensures.next,
-      c.put-header-at.auto.out,
-      c.put-words-at.auto.out,
-      c.put-plant-at.auto.out,
-      c.put-picture-at.auto.out,
-      c.put-goal-at.auto.out,
+      c.put_header-at.ensures.next,
+      c.put_words-at.ensures.next,
+      c.put_plant-at.ensures.next,
+      c.put_picture-at.ensures.next,
+      c.put_goal-at.ensures.next,
+      c.put_header-at.auto.out,
+      c.put_words-at.auto.out,
+      c.put_plant-at.auto.out,
+      c.put_picture-at.auto.out,
+      c.put_goal-at.auto.out,
     )
 
 -- the parts one behind the other are the record
@@ -107,13 +107,13 @@ pub returns : goal.returns
 returns c =
     let out = c.args.out.now in
     let f = c.args.feeder.now in
-    let f1 = filled_more out [] (header_bytes c.header.result) 0 _ out _ (filled_none out) c.put-header-at.ensures.next c.put-header-at.ensures.after in
-    let f2 = filled_more out _ (arity_bytes c.vocabulary-vocabulary.result) _ _ _ _ f1 c.put-words-at.ensures.next c.put-words-at.ensures.after in
-    let f3 = filled_more out _ (plant_bytes f.plant) _ _ _ _ f2 c.put-plant-at.ensures.next c.put-plant-at.ensures.after in
-    let f4 = filled_more out _ (picture_bytes f.first) _ _ _ _ f3 c.put-picture-at.ensures.next c.put-picture-at.ensures.after in
-    let f5 = filled_more out _ (goal_bytes f.goal) _ _ _ _ f4 c.put-goal-at.ensures.next c.put-goal-at.ensures.after in
-    let f6 = filled_more out _ (rule_bytes f.rules) _ _ _ _ f5 c.put-rules.ensures.next c.put-rules.ensures.after in
-    let all = subst (λ (t : List ℕ). Filled out t c.put-rules.result c.put-rules.new.out)
+    let f1 = filled_more out [] (header_bytes c.header.result) 0 _ out _ (filled_none out) c.put_header-at.ensures.next c.put_header-at.ensures.after in
+    let f2 = filled_more out _ (arity_bytes c.vocabulary-vocabulary.result) _ _ _ _ f1 c.put_words-at.ensures.next c.put_words-at.ensures.after in
+    let f3 = filled_more out _ (plant_bytes f.plant) _ _ _ _ f2 c.put_plant-at.ensures.next c.put_plant-at.ensures.after in
+    let f4 = filled_more out _ (picture_bytes f.first) _ _ _ _ f3 c.put_picture-at.ensures.next c.put_picture-at.ensures.after in
+    let f5 = filled_more out _ (goal_bytes f.goal) _ _ _ _ f4 c.put_goal-at.ensures.next c.put_goal-at.ensures.after in
+    let f6 = filled_more out _ (rule_bytes f.rules) _ _ _ _ f5 c.put_rules.ensures.next c.put_rules.ensures.after in
+    let all = subst (λ (t : List ℕ). Filled out t c.put_rules.result c.put_rules.new.out)
     (pieces f c.header.result c.vocabulary-vocabulary.result c.header.ensures c.vocabulary-vocabulary.ensures) f6
     in
     record { next = all.place; after = filled_holds out _ _ _ all }

@@ -15,17 +15,17 @@ returns c =
     let first = ap (λ (h : Header). h.first) e in
     let goal = ap (λ (h : Header). h.goal) e in
     let rules = ap (λ (h : Header). rules_size h.book h.rules) e in
-    let plant = c.plant-length-plant.ensures.size in
+    let plant = c.plant_length-plant.ensures.size in
     record {
-      size = omega (arith, c.rules-bytes.ensures, encode_long f, words_long v, first_long f.first, goal_long f.goal, rules_long f.rules);
+      size = omega (arith, c.rules_bytes.ensures, encode_long f, words_long v, first_long f.first, goal_long f.goal, rules_long f.rules);
       bound = omega (
         arith,
-        c.rules-bytes.ensures,
+        c.rules_bytes.ensures,
         rules_long f.rules,
         rules_most f.rules,
         members_few f.first,
         v.few,
         f.goal.few,
-        c.plant-length-plant.ensures.bound,
+        c.plant_length-plant.ensures.bound,
       );
     }

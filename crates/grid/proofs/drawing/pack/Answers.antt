@@ -16,8 +16,8 @@ small : (word : ℕ) → word < 2 ^ 64 → (i : ℕ) → get_or (word ∷ replic
 small word h zero = h
 small word h (suc i) = let e = rest word (suc i) (omega arith) in omega arith
 
-pub invariant-of-result : goal.invariant-of-result
-invariant-of-result c = (
+pub invariant_of-result : goal.invariant_of-result
+invariant_of-result c = (
   refl,
   (
     small (word_of c.args.objects c.args.closed c.args.earthed c.args.live)

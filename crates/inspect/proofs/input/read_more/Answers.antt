@@ -2,5 +2,5 @@
 use Rattle.std.proofs.Common.{arith, length-append}
 use Rattle.inspect.proofs.input.read_more.Goals as goal
 
-pub slice-bounds-extend-from-slice-end : goal.slice-bounds-extend-from-slice-end
-slice-bounds-extend-from-slice-end g c = let h = c.in-ok-n.ensures in simp length-append (omega arith)
+pub slice_bounds-extend_from_slice-end : goal.slice_bounds-extend_from_slice-end
+slice_bounds-extend_from_slice-end g c = let h = c.in_ok-n.ensures in simp length-append (omega arith)

@@ -8,8 +8,8 @@ pub loop-found-init : goal.loop-found-init
 unfolding chosen
 loop-found-init g c = (omega arith, search rules)
 
-pub overflow-add-from : goal.overflow-add-from
-overflow-add-from g c =
+pub overflow_add-from : goal.overflow_add-from
+overflow_add-from g c =
     let n = next_move _ c.loop-found.from c.loop-found.invariant.0 c.in-Some.found c.in-Some.ensures in
     omega (arith, n.1.0)
 
@@ -24,7 +24,7 @@ loop-found-preserved g c =
     let n = next_move _ c.loop-found.from c.loop-found.invariant.0 m c.in-Some.ensures in
     let e : suc m ≡ m + 1 = omega arith in (
       omega (arith, n.1.0),
-      c.in-ok-push.ensures.items
+      c.in_ok-push.ensures.items
           ∙ ap (λ (t : List ℕ). t ++ (m ∷ [])) c.loop-found.invariant.1
           ∙ sym n.1.1
           ∙ ap (λ (k : ℕ). chosen k (g.P.Plant.allowed c.args.plant.now c.args.state.now)) e,
@@ -33,4 +33,4 @@ loop-found-preserved g c =
 pub returns : goal.returns
 returns g c =
     c.loop-found.invariant.1
-    ∙ sym (no_move _ c.loop-found.from c.loop-found.invariant.0 c.in-default.ensures)
+    ∙ sym (no_move _ c.loop-found.from c.loop-found.invariant.0 c.in_default.ensures)

@@ -18,6 +18,6 @@ pub returns : goal.returns
 returns c =
     let digits = decimal c.args.n in
     let written = c.in-Ok.ensures in
-    c.extend-from-slice.ensures.items
-    ∙ ap (λ (t : List ℕ). added (vec_items c.args.page.now) t (is_ok c.extend-from-slice.result))
+    c.extend_from_slice.ensures.items
+    ∙ ap (λ (t : List ℕ). added (vec_items c.args.page.now) t (is_ok c.extend_from_slice.result))
     (front Short digits (replicate 5 0) (few c.args.n (omega arith)) _ _ written.answers written.after)

@@ -13,8 +13,8 @@ use Rattle.model.proofs.numbering.terms_at.Goals as goal
 row_below : (n at : ℕ) (a : Arity) → 0 < n → a ≡ Two → at < facts_of n a → at / n < n
 row_below n at a z e h = div_below at n n z (subst (λ (b : Arity). at < facts_of n b) e h)
 
-pub overflow-cast-result-in-Two : goal.overflow-cast-result-in-Two
-overflow-cast-result-in-Two c =
+pub overflow_cast-result-in-Two : goal.overflow_cast-result-in-Two
+overflow_cast-result-in-Two c =
     omega (arith, row_below c.args.objects c.args.at c.args.arity c.requires.0 c.in-Two.is c.requires.1.1, c.requires.1.0)
 
 pub returns-in-Two : goal.returns-in-Two

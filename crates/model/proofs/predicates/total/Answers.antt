@@ -6,8 +6,8 @@ use Rattle.model.specs.Facts.{facts, facts_of}
 use Rattle.model.proofs.Counting.{facts_most, facts_push}
 use Rattle.model.proofs.predicates.total.Goals as goal
 
-pub overflow-add-sum : goal.overflow-add-sum
-overflow-add-sum c =
+pub overflow_add-sum : goal.overflow_add-sum
+overflow_add-sum c =
     let m = facts_most c.args.objects (get_or c.args.arities.now c.loop-a.a-index Zero) c.requires.1 in
     omega (arith, c.facts-sum.ensures, c.requires.0)
 

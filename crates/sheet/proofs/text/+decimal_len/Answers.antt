@@ -10,7 +10,7 @@ returns-then-n-lt10 t c = record { value = rw (decimal_digit c.args.n c.if-n-lt1
 pub returns-else-n-lt10 : goal.returns-else-n-lt10
 returns-else-n-lt10 t c =
     let n = c.args.n in
-    let e : c.decimal-len.result + 1 ≡ length (decimal n) =
-    ap (λ (k : ℕ). k + 1) c.decimal-len.ensures.value ∙ sym (longer n c.if-n-lt10.false (omega arith))
+    let e : c.decimal_len.result + 1 ≡ length (decimal n) =
+    ap (λ (k : ℕ). k + 1) c.decimal_len.ensures.value ∙ sym (longer n c.if-n-lt10.false (omega arith))
     in
     record { value = e; bound = omega (arith, length-decimal-le 5 n (omega arith) (omega arith) (omega arith)) }

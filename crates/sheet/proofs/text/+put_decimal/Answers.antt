@@ -6,18 +6,18 @@ use Rattle.codec.specs.Codes.{written}
 use Rattle.sheet.proofs.Digits.{longer}
 use Rattle.sheet.proofs.text.+put_decimal.Goals as goal
 
-pub put-byte-requires : goal.put-byte-requires
-put-byte-requires t c = omega (arith, decimal_nonempty c.args.n (omega arith))
+pub put_byte-requires : goal.put_byte-requires
+put_byte-requires t c = omega (arith, decimal_nonempty c.args.n (omega arith))
 
-pub put-decimal-last-requires : goal.put-decimal-last-requires
-put-decimal-last-requires t c = (omega arith, omega (arith, longer c.args.n c.if-n-lt10.false (omega arith)))
+pub put_decimal-last-requires : goal.put_decimal-last-requires
+put_decimal-last-requires t c = (omega arith, omega (arith, longer c.args.n c.if-n-lt10.false (omega arith)))
 
-pub put-byte-requires-2 : goal.put-byte-requires-2
-put-byte-requires-2 t c = omega (arith, longer c.args.n c.if-n-lt10.false (omega arith))
+pub put_byte-requires-2 : goal.put_byte-requires-2
+put_byte-requires-2 t c = omega (arith, longer c.args.n c.if-n-lt10.false (omega arith))
 
 pub returns-then-n-lt10 : goal.returns-then-n-lt10
 returns-then-n-lt10 t c =
-    rw (decimal_digit c.args.n c.if-n-lt10.true) (record { next = c.put-byte.ensures.next; after = c.put-byte.ensures.after })
+    rw (decimal_digit c.args.n c.if-n-lt10.true) (record { next = c.put_byte.ensures.next; after = c.put_byte.ensures.after })
 
 pub returns : goal.returns
 returns t c =
@@ -29,9 +29,9 @@ returns t c =
     record {
       next = omega (arith, longer n c.if-n-lt10.false (omega arith));
       after =
-          c.put-byte-2.ensures.after
-          ∙ ap (λ (o : List ℕ). written o c.put-decimal-last.result digit) c.put-decimal-last.ensures.after
-          ∙ ap (λ (k : ℕ). written (written out at front) k digit) c.put-decimal-last.ensures.next
+          c.put_byte-2.ensures.after
+          ∙ ap (λ (o : List ℕ). written o c.put_decimal-last.result digit) c.put_decimal-last.ensures.after
+          ∙ ap (λ (k : ℕ). written (written out at front) k digit) c.put_decimal-last.ensures.next
           ∙ written_more out at front digit (omega arith)
           ∙ ap (written out at) (sym (decimal_step n c.if-n-lt10.false (omega arith)));
     }

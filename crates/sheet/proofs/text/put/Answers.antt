@@ -11,6 +11,6 @@ returns c =
     record {
       next = refl;
       after =
-          put_mid-paste _ _ out _ text (length text) c.copy-from-slice.ensures.after (omega arith) refl
+          put_mid-paste _ _ out _ text (length text) c.copy_from_slice.ensures.after (omega arith) refl
           ∙ as_paste out c.args.at text;
     }

@@ -6,6 +6,6 @@ use Rattle.books.proofs.node.NodeCoded.decode.Goals as goal
 
 pub returns : goal.returns
 returns c =
-    let answer = c.from-bytes.result in
+    let answer = c.from_bytes.result in
     subst (λ (bytes : List ℕ). Decoded node_bytes node_proper bytes answer) (spelled_all 4 c.args.bytes.now (omega arith))
-    c.from-bytes.ensures
+    c.from_bytes.ensures

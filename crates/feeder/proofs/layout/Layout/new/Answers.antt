@@ -12,18 +12,18 @@ left_same h bytes = ap (plant_size h.plant h.rows) (take_rest bytes (plant_at h)
 left_long : (h : Header) (bytes : List ℕ) → length (take (length bytes - plant_at h) (drop (plant_at h) bytes)) ≡ length bytes - plant_at h
 left_long h bytes = ap length (take_rest bytes (plant_at h)) ∙ length-drop (plant_at h) bytes
 
-pub returns-in-default : goal.returns-in-default
-returns-in-default c =
+pub returns-in_default : goal.returns-in_default
+returns-in_default c =
     let h = c.args.header.now in
     let bytes = c.args.bytes.now in
-    λ e. omega (arith, c.in-default.ensures, left_same h bytes, left_long h bytes)
+    λ e. omega (arith, c.in_default.ensures, left_same h bytes, left_long h bytes)
 
 pub returns-then-left-end : goal.returns-then-left-end
 returns-then-left-end c =
     let h = c.args.header.now in
     let bytes = c.args.bytes.now in
     let s = c.in-Some.ensures in
-    λ e. omega (arith, left_same h bytes, left_long h bytes, c.rules-bytes.ensures)
+    λ e. omega (arith, left_same h bytes, left_long h bytes, c.rules_bytes.ensures)
 
 pub returns : goal.returns
 returns c =
@@ -32,7 +32,7 @@ returns c =
     let s = c.in-Some.ensures in
     let f : plant_at h + c.in-Some.size ≡ facts_at h bytes = omega (arith, left_same h bytes) in
     record {
-      whole = omega (arith, left_long h bytes, c.rules-bytes.ensures);
+      whole = omega (arith, left_long h bytes, c.rules_bytes.ensures);
       plant = refl;
       facts = f;
       goal = omega arith;

@@ -7,7 +7,7 @@ use Rattle.grid.proofs.Acting.{not_allowed}
 use Rattle.grid.proofs.moves.NetworkPlantPlant.allowed_from.Goals as goal
 
 pub loop-place-init : goal.loop-place-init
-loop-place-init c = λ m l h. not_allowed c.args.self.now.network c.args.state.now m (λ p. omega (arith, p.0, c.div-ceil-place.ensures))
+loop-place-init c = λ m l h. not_allowed c.args.self.now.network c.args.state.now m (λ p. omega (arith, p.0, c.div_ceil-place.ensures))
 
 pub loop-place-preserved : goal.loop-place-preserved
 loop-place-preserved c =
@@ -29,7 +29,7 @@ returns-then-allows c =
     let s = c.args.state.now in
     let at = c.loop-place.place * 16 in
     let e = sym c.allows.ensures.same ∙ c.if-allows.true in
-    let before : c.args.from ≤ at = omega (arith, c.div-ceil-place.ensures, c.loop-place.auto.place) in
+    let before : c.args.from ≤ at = omega (arith, c.div_ceil-place.ensures, c.loop-place.auto.place) in
     sym (lowest_skip (network_allowed w s) c.args.from at before (omega arith) c.loop-place.invariant ∙ lowest_here (network_allowed w s) at (omega arith) e)
 
 pub returns : goal.returns

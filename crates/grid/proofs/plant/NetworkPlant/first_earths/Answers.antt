@@ -21,8 +21,8 @@ loop-x-preserved c =
     ∙ ap (λ (b : Bool). bit_or (bits_of x test) (bool_byte b * 2 ^ x % 2 ^ 16)) c.holds.ensures
     ∙ packed_more x test (omega (arith, p.network.vocabulary.high))
 
-pub invariant-of-result : goal.invariant-of-result
-invariant-of-result c =
+pub invariant_of-result : goal.invariant_of-result
+invariant_of-result c =
     let p = c.args.self.now in
     let x = c.loop-x.x in
     let few : x ≤ 16 = omega (arith, p.network.vocabulary.high) in

@@ -4,4 +4,4 @@ use Rattle.grid.proofs.plant.NetworkPlant.start.Goals as goal
 
 pub returns : goal.returns
 unfolding first_state
-returns c = same_state _ _ c.first-positions.ensures c.first-earths.ensures
+returns c = same_state _ _ c.first_positions.ensures c.first_earths.ensures

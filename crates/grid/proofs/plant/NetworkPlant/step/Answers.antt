@@ -25,12 +25,12 @@ returns-else-changes c =
     let next : s ≡ network_next w s m = sym (next_same w s m (ap (some_changes w s) o ∙ e)) in
     record { next = next; law = subst (Stepped w s m) (sym next) (next_law w s m) }
 
-pub returns-in-default : goal.returns-in-default
+pub returns-in_default : goal.returns-in_default
 unfolding network_allowed
-returns-in-default c =
+returns-in_default c =
     let w = c.args.self.now.network in
     let s = c.args.state.now in
     let m = c.args.number in
-    let o : action_of m ≡ None = sym c.of.ensures.same ∙ c.in-default.is in
+    let o : action_of m ≡ None = sym c.of.ensures.same ∙ c.in_default.is in
     let next : s ≡ network_next w s m = sym (next_same w s m (ap (some_changes w s) o)) in
     record { next = next; law = subst (Stepped w s m) (sym next) (next_law w s m) }

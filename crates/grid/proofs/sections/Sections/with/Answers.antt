@@ -4,8 +4,8 @@ use Rattle.std.proofs.lemmas.Nat.{mod_below, or_lt}
 use Rattle.model.proofs.Bits.{bit_joined}
 use Rattle.grid.proofs.sections.Sections.with.Goals as goal
 
-pub invariant-of-result : goal.invariant-of-result
-invariant-of-result c =
+pub invariant_of-result : goal.invariant_of-result
+invariant_of-result c =
     let n = c.args.self.bits in
     let m = 1 * 2 ^ c.args.section in
     (or_lt 16 n (m % 2 ^ 16) c.args.self.small (mod_below m (2 ^ 16) (omega arith)), tt)

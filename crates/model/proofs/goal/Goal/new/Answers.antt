@@ -4,11 +4,11 @@ use Rattle.model.specs.declared.fact.Literal.{Literal}
 use Rattle.model.specs.Ascents.{Ascending, blank_literal, literal_facts}
 use Rattle.model.proofs.goal.Goal.new.Goals as goal
 
-pub invariant-of-result : goal.invariant-of-result
-invariant-of-result c =
+pub invariant_of-result : goal.invariant_of-result
+invariant_of-result c =
     let t = tabled blank_literal 64 c.args.literals.now c.padded.result c.padded.ensures (omega arith) in
     let rises = subst (λ (xs : List Literal). Ascending (literal_facts xs)) (sym t.front) (c.if-not-ascend.ensures.0 refl) in
-    (omega arith, (t.long, (t.rest, (rises, tt))))
+    record { few = omega arith; places = t.long; unused = t.rest; rises = rises }
 
 pub returns : goal.returns
 returns c = (tabled blank_literal 64 c.args.literals.now c.padded.result c.padded.ensures (omega arith)).front

@@ -7,16 +7,13 @@ use Rattle.model.proofs.Bits.{bit_joined}
 use Rattle.model.proofs.Pictures.{changed_bit, changed_small}
 use Rattle.model.proofs.picture.Picture.insert.Goals as goal
 
-pub invariant-of-self : goal.invariant-of-self
-invariant-of-self c =
+pub invariant_of-self : goal.invariant_of-self
+invariant_of-self c =
     let p = c.args.self.now in
     let f = c.args.fact.number in
     let old = get_or p.words (f / 64) 0 in
     let power : 1 * 2 ^ (f % 64) % 2 ^ 64 < 2 ^ 64 = mod_below (1 * 2 ^ (f % 64)) (2 ^ 64) (omega arith) in
-    let h : f / 64 < length p.words = omega (arith, p.places) in (
-      length-set p.words (f / 64) _ ∙ p.places,
-      (changed_small p.words (f / 64) (bit_or old (1 * 2 ^ (f % 64) % 2 ^ 64)) h p.small (or_lt 64 old (1 * 2 ^ (f % 64) % 2 ^ 64) (p.small (f / 64)) power), tt),
-    )
+    let h : f / 64 < length p.words = omega (arith, p.places) in record { places = length-set p.words (f / 64) _ ∙ p.places; small = changed_small p.words (f / 64) (bit_or old (1 * 2 ^ (f % 64) % 2 ^ 64)) h p.small (or_lt 64 old (1 * 2 ^ (f % 64) % 2 ^ 64) (p.small (f / 64)) power) }
 
 pub returns : goal.returns
 unfolding holds

@@ -22,8 +22,8 @@ loop-number-preserved c =
           (listing_left p l.facts l.count l.number l.invariant (sym w.if-holds.ensures))
     ]
 
-pub invariant-of-result : goal.invariant-of-result
-invariant-of-result c = let l = c.loop-number.invariant in (omega arith, (l.long, (l.rest, tt)))
+pub invariant_of-result : goal.invariant_of-result
+invariant_of-result c = let l = c.loop-number.invariant in record { few = omega arith; places = l.long; unused = l.rest }
 
 pub returns : goal.returns
 returns c =

@@ -7,12 +7,12 @@ pub returns-in-1 : goal.returns-in-1
 returns-in-1 c =
     let a = c.args.self.now in
     λ p.
-    c.to-byte.ensures (and_parts (term_proper a.first) (term_proper a.second) p).0
+    c.to_byte.ensures (and_parts (term_proper a.first) (term_proper a.second) p).0
     ∙ ap (λ (k : ℕ). get_or (atom_bytes a) k 0) (sym c.in-1.is)
 
 pub returns-in-2 : goal.returns-in-2
 returns-in-2 c =
     let a = c.args.self.now in
     λ p.
-    c.to-byte-in-2.ensures (and_parts (term_proper a.first) (term_proper a.second) p).1
+    c.to_byte-in-2.ensures (and_parts (term_proper a.first) (term_proper a.second) p).1
     ∙ ap (λ (k : ℕ). get_or (atom_bytes a) k 0) (sym c.in-2.is)

@@ -6,9 +6,9 @@ use Rattle.model.proofs.term.AtomCoded.decode.Goals as goal
 
 pub returns : goal.returns
 returns c =
-    let s = c.in-ok-first.first in
-    let t = c.in-ok-second.second in
-    let e = c.in-ok-first.ensures.0 in
-    let f = c.in-ok-second.ensures.0 in
+    let s = c.in_ok-first.first in
+    let t = c.in_ok-second.second in
+    let e = c.in_ok-first.ensures.0 in
+    let f = c.in_ok-second.ensures.0 in
     let all = spelled_all 3 c.args.bytes.now (omega arith) in
-    (cc, and_from (term_proper s) (term_proper t) c.in-ok-first.ensures.1 c.in-ok-second.ensures.1)
+    (cc, and_from (term_proper s) (term_proper t) c.in_ok-first.ensures.1 c.in_ok-second.ensures.1)

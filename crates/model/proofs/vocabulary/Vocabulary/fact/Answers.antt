@@ -24,7 +24,7 @@ returns c =
     ap (λ (o : ℕ). place v.objects (get_or v.arities p Zero) o c.object-2.result) c.object.ensures
     ∙ ap (λ (r : ℕ). place v.objects (get_or v.arities p Zero) (object_of a.first) r) c.object-2.ensures
     in
-    let number : c.total-first.result + c.place-of-at.result ≡ number_of v a =
-    omega (arith, first_fact_is v p (omega arith), c.place-of-at.ensures.place)
+    let number : c.total-first.result + c.place_of-at.result ≡ number_of v a =
+    omega (arith, first_fact_is v p (omega arith), c.place_of-at.ensures.place)
     in
     ap (λ (n : ℕ). Some (record { number = n })) number ∙ sym (cond-true (atom_fits v 0 a) _ _ fits)

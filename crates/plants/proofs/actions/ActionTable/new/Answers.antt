@@ -13,11 +13,11 @@ table c =
     (c.padded-places.ensures ∙ ap (λ (b : Operator). table_of 16 b c.args.operators.now) c.blank.ensures)
     (omega arith)
 
-pub invariant-of-result : goal.invariant-of-result
-invariant-of-result c =
+pub invariant_of-result : goal.invariant_of-result
+invariant_of-result c =
     let t = table c in
-    let e = ap (every (operator_fits c.args.vocabulary)) t.front ∙ sym c.if-not-all-fit.ensures in
-    (omega arith, (t.long, (t.rest, (e, tt))))
+    let e = ap (every (operator_fits c.args.vocabulary)) t.front ∙ sym c.if-not-all_fit.ensures in
+    record { few = omega arith; places = t.long; unused = t.rest; fits = e }
 
 pub returns : goal.returns
 returns c = (refl, (table (goal.at.returns c).After-padded-places).front)

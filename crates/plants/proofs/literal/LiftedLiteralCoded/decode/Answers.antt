@@ -5,8 +5,8 @@ use Rattle.plants.proofs.literal.LiftedLiteralCoded.decode.Goals as goal
 
 pub returns : goal.returns
 returns c =
-    let sign = c.in-ok-sign.ensures.0 in
-    let atom = c.in-ok-atom.ensures in
+    let sign = c.in_ok-sign.ensures.0 in
+    let atom = c.in_ok-atom.ensures in
     let all = spelled_all 4 c.args.bytes.now (omega arith) in
     let rest = ap (λ (t : List ℕ). take 3 (drop 1 t)) all in
     (cc, atom.1)

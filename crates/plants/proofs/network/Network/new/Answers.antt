@@ -10,11 +10,11 @@ use Rattle.plants.proofs.network.Network.new.Goals.{After-padded-places}
 table : (c : goal.After-padded-places) → Tabled blank_switch 16 c.args.switches.now c.padded-places.result
 table c = tabled blank_switch 16 c.args.switches.now c.padded-places.result c.padded-places.ensures (omega arith)
 
-pub invariant-of-result : goal.invariant-of-result
-invariant-of-result c =
+pub invariant_of-result : goal.invariant_of-result
+invariant_of-result c =
     let t = table c in
-    let e = ap (every (switch_fits c.args.vocabulary.objects)) t.front ∙ sym c.if-not-all-join.ensures in
-    (ap (map arity_byte) c.if-not-has-three-unary.ensures, (omega arith, (t.long, (t.rest, (e, (omega arith, tt))))))
+    let e = ap (every (switch_fits c.args.vocabulary.objects)) t.front ∙ sym c.if-not-all_join.ensures in
+    record { unary = ap (map arity_byte) c.if-not-has_three_unary.ensures; few = omega arith; places = t.long; unused = t.rest; ends = e; feeds = omega arith }
 
 pub returns : goal.returns
 returns c = (refl, (table (goal.at.returns c).After-padded-places).front, refl)

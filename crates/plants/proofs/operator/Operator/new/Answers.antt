@@ -20,8 +20,8 @@ filled c =
     let t = tabled blank_lifted 16 all c.padded-places.result c.padded-places.ensures (omega arith) in
     subst (Filled c) n (record { sum = refl; long = t.long; front = t.front; rest = t.rest })
 
-pub invariant-of-result : goal.invariant-of-result
-invariant-of-result c = let t = filled c in (omega arith, (omega arith, (omega arith, (t.long, (t.rest, tt)))))
+pub invariant_of-result : goal.invariant_of-result
+invariant_of-result c = let t = filled c in record { narrow = omega arith; before = omega arith; after = omega arith; places = t.long; unused = t.rest }
 
 pub returns : goal.returns
 returns c = let t = filled (goal.at.returns c).After-padded-places in (refl, refl, t.sum, t.front)

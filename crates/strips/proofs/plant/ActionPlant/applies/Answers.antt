@@ -15,21 +15,21 @@ returns-then-number-self c =
     let e = sym (allowed_beyond t c.args.state.now c.args.number c.if-number-self.true) in
     record { allowed = e; parts = parts c.args.number; law = answered t c.args.state.now c.args.number _ e }
 
-pub returns-then-takes-both : goal.returns-then-takes-both
-returns-then-takes-both c =
+pub returns-then-takes_both : goal.returns-then-takes_both
+returns-then-takes_both c =
     let t = c.args.self.now.table in
     let s = c.args.state.now in
     let m = c.args.number in
     let e = c.needs_hold.ensures
-    ∙ ap (λ (b : Bool). b && needs_hold t s m) c.if-takes-both.ensures
+    ∙ ap (λ (b : Bool). b && needs_hold t s m) c.if-takes_both.ensures
     ∙ sym (allowed_within t s m c.if-number-self.false) in
     record { allowed = e; parts = parts m; law = answered t s m c.needs_hold.result e }
 
-pub returns-else-takes-both : goal.returns-else-takes-both
-returns-else-takes-both c =
+pub returns-else-takes_both : goal.returns-else-takes_both
+returns-else-takes_both c =
     let t = c.args.self.now.table in
     let s = c.args.state.now in
     let m = c.args.number in
-    let no = and_left (takes_both t m) (needs_hold t s m) (sym c.if-takes-both.ensures) in
-    let e = c.if-takes-both.false ∙ sym (allowed_within t s m c.if-number-self.false ∙ no) in
+    let no = and_left (takes_both t m) (needs_hold t s m) (sym c.if-takes_both.ensures) in
+    let e = c.if-takes_both.false ∙ sym (allowed_within t s m c.if-number-self.false ∙ no) in
     record { allowed = e; parts = parts m; law = answered t s m c.takes_both.result e }

@@ -19,13 +19,13 @@ taken c F =
     c.of.ensures.first c.of.ensures.second
     (ap front c.operator-op.ensures ∙ front_is (operator_at c.args.self.now.table c.args.number))
 
-pub all-hold-requires : goal.all-hold-requires
-all-hold-requires c =
+pub all_hold-requires : goal.all_hold-requires
+all_hold-requires c =
     let t = c.args.self.now.table in
     taken c (λ o r xs. every (ground_fits t.vocabulary o r) xs) ∙ preconditions_ground t c.args.number c.requires.0 c.requires.1
 
 pub returns : goal.returns
 unfolding needs_hold
 returns c =
-    c.all-hold.ensures
+    c.all_hold.ensures
     ∙ taken (goal.at.returns c).After-of (λ o r xs. every (holds_under c.args.self.now.table.vocabulary o r c.args.state.now) xs)
