@@ -17,14 +17,11 @@ small word h zero = h
 small word h (suc i) = let e = rest word (suc i) (omega arith) in omega arith
 
 pub invariant_of-result : goal.invariant_of-result
-invariant_of-result c = (
-  refl,
-  (
-    small (word_of c.args.objects c.args.closed c.args.earthed c.args.live)
-        (word_small c.args.objects c.args.closed c.args.earthed c.args.live c.requires.few c.requires.switches c.requires.earths c.requires.fed),
-    tt,
-  ),
-)
+invariant_of-result c = record {
+  places = refl;
+  small = small (word_of c.args.objects c.args.closed c.args.earthed c.args.live)
+      (word_small c.args.objects c.args.closed c.args.earthed c.args.live c.requires.few c.requires.switches c.requires.earths c.requires.fed);
+}
 
 pub returns : goal.returns
 unfolding holds

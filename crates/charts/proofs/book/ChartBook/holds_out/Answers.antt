@@ -14,7 +14,7 @@ pub loop-turn-preserved : goal.loop-turn-preserved
 loop-turn-preserved c =
     let t = c.args.self.now.chart in
     let q = c.args.picture.now in
-    let turn = c.loop-turn.-turn in
+    let turn = c.loop-turn._turn in
     let at = c.loop-turn.at in
     c.loop-turn.invariant
     ∙ one_turn t q turn at c.loop-turn-test.true
@@ -25,7 +25,7 @@ pub returns-then-at-ge-BROKEN : goal.returns-then-at-ge-BROKEN
 returns-then-at-ge-BROKEN c =
     let t = c.args.self.now.chart in
     let q = c.args.picture.now in
-    let turn = c.loop-turn.-turn in
+    let turn = c.loop-turn._turn in
     let at = c.loop-turn.at in
     sym (c.loop-turn.invariant ∙ one_turn t q turn at c.loop-turn-test.true ∙ and_left (ltb at 16) (stays t q (17 - (turn + 1)) (step_after t at q)) (le-ltb at 16 c.if-at-ge-BROKEN.true))
 
@@ -34,5 +34,5 @@ unfolding stays
 returns c =
     let t = c.args.self.now.chart in
     let q = c.args.picture.now in
-    let e : 17 - c.loop-turn.-turn ≡ 0 = omega arith in
+    let e : 17 - c.loop-turn._turn ≡ 0 = omega arith in
     sym (c.loop-turn.invariant ∙ ap (λ (n : ℕ). stays t q n c.loop-turn.at) e)

@@ -4,4 +4,4 @@ use Rattle.charts.proofs.book.ChartBook.holds_out.Given as goal
 
 -- what is left of the turns decides
 abbrev pub invariant-loop-turn : goal.invariant-loop-turn
-invariant-loop-turn l = rests l.self.chart l.step l.picture ≡ stays l.self.chart l.picture (17 - l.-turn) l.at
+invariant-loop-turn l = rests l.self.chart l.step l.picture ≡ stays l.self.chart l.picture (17 - l._turn) l.at

@@ -27,7 +27,7 @@ invariant_of-result c =
     let x = c.loop-x.x in
     let few : x ≤ 16 = omega (arith, p.network.vocabulary.high) in
     let wide : 2 ^ x ≤ 2 ^ 16 = pow_mono few in
-    (omega (arith, c.loop-x.invariant, bits_below x (λ k. holds p.first (p.network.vocabulary.objects + k))), tt)
+    record { small = omega (arith, c.loop-x.invariant, bits_below x (λ k. holds p.first (p.network.vocabulary.objects + k))) }
 
 pub returns : goal.returns
 returns c =

@@ -8,7 +8,7 @@ pub invariant_of-result : goal.invariant_of-result
 invariant_of-result c =
     let n = c.args.self.bits in
     let m = 1 * 2 ^ c.args.section in
-    (or_lt 16 n (m % 2 ^ 16) c.args.self.small (mod_below m (2 ^ 16) (omega arith)), tt)
+    record { small = or_lt 16 n (m % 2 ^ 16) c.args.self.small (mod_below m (2 ^ 16) (omega arith)) }
 
 pub returns : goal.returns
 returns c =
