@@ -16,11 +16,10 @@ ghost use Rattle.inspect.specs.Pages.{added};
 ghost use Rattle.sheet.specs.Sheet.{refusal_line};
 
 use crate::input::take_in;
-use crate::moves::show_start;
 use crate::page::{Said, count, say};
 use crate::plant::show_plant;
 use crate::rules::show_rules;
-use crate::words::{Words, list, show_picture};
+use crate::words::{Words, list};
 use feeder::read::read;
 use feeder::record::Feeder;
 use feeder::refusal::ReadRefusal;
@@ -34,10 +33,9 @@ fn show(page: &mut Vec<u8>, feeder: &Feeder) -> Said {
     let words = Words::of(&feeder.plant);
     show_plant(page, &words, &feeder.plant)?;
     say(page, "first facts: ")?;
-    show_picture(page, &words, &feeder.first)?;
-    say(page, "\n")?;
-    show_start(page, &words, feeder)?;
-    say(page, "goal: ")?;
+    let first = feeder.first.members();
+    list(page, &words, &first.facts[0..first.count as usize], "none")?;
+    say(page, "\ngoal: ")?;
     let wanted = &feeder.goal.literals[0..feeder.goal.count as usize];
     list(page, &words, wanted, "nothing is wanted")?;
     say(page, "\nlimit: ")?;

@@ -106,7 +106,7 @@ fn show_first<P: Spoken>(page: &mut Vec<u8>, words: &Words, plant: &P) -> Said {
     say(page, "first picture: ")?;
     show_picture(page, words, &plant.picture(&state))?;
     say(page, "\nallowed moves: ")?;
-    let moves = allowed_moves(page.allocator(), plant, &state)?;
+    let moves = allowed_moves(*page.allocator(), plant, &state)?;
     if moves.is_empty() {
         return say(page, "none\n");
     }
@@ -133,5 +133,43 @@ pub(crate) fn show_start(page: &mut Vec<u8>, words: &Words, feeder: &Feeder) -> 
             };
             show_first(page, words, &plant)
         }
+    }
+}
+
+#[cfg(test)]
+mod tests {
+    use super::show_start;
+    use crate::words::Words;
+    use feeder::read::read;
+    use std::test::Fail;
+
+    // The example of three sections.
+    const EXAMPLE: [u8; 50] = *b"\
+        \x01\x02\x03\x03\x02\x01\x05\x02\x02\x00\x02\
+        \x01\x01\x01\
+        \x00\x01\x01\x02\x00\x01\
+        \x00\x00\x00\x01\
+        \x01\x00\x05\x01\x00\x07\
+        \x02\x02\x10\x00\x02\x01\x10\x00\x05\x01\x00\x00\x0c\x00\x02\x00\x0a\x03\x00\x00";
+
+    // Both switches are closed, so all sections are live; either can be opened, and an earth placed anywhere.
+    const SAID: &str = "first picture: closed(0), closed(1), live(0), live(1), live(2)\n\
+        allowed moves: 5\n\
+        \x20 0: open switch 0\n\
+        \x20 16: open switch 1\n\
+        \x20 512: place an earth at section 0\n\
+        \x20 528: place an earth at section 1\n\
+        \x20 544: place an earth at section 2\n";
+
+    #[test]
+    fn first_state_of_the_example(rt: HostRuntime) -> Result<(), Fail> {
+        let Ok(feeder) = read(&EXAMPLE) else {
+            return Err(Fail::new("refused"));
+        };
+        let mut page = Vec::new(rt.alloc());
+        let said = show_start(&mut page, &Words::of(&feeder.plant), &feeder);
+        assert!(rt; said.is_ok());
+        assert_eq!(rt; page.as_slice(), SAID.as_bytes());
+        Ok(())
     }
 }

@@ -56,11 +56,11 @@ impl Picture {
     pub fn remove(&mut self, fact: Fact) -> bool
         ensures { Removed self.old fact.number self.new result }
     {
-        if fact.number >= 512 {
-            return false;
+        if fact.number < 512 {
+            self.words[(fact.number / 64) as usize] &= !(1 << (fact.number % 64));
+            return true;
         }
-        self.words[(fact.number / 64) as usize] &= !(1 << (fact.number % 64));
-        true
+        false
     }
 
     // The facts that hold, ascending.
