@@ -1,5 +1,5 @@
 -- Steps of a chart: where each picture leads, which runs are permitted, and when it rests.
-use Rattle.std.specs.Prelude.{ℕ, zero, suc, ◌<◌, Bool, true, cond, ◌&&◌, List, [], ◌∷◌, ◌==◌, nat_lt}
+use Rattle.std.specs.Prelude.{ℕ, zero, suc, ◌<◌, Bool, cond, ◌&&◌, List, [], ◌∷◌, ◌==◌, nat_lt}
 use Rattle.books.specs.Charts.{line_list}
 use Rattle.books.specs.declared.chart.Chart.{Chart}
 use Rattle.books.specs.declared.line.Line.{Line}

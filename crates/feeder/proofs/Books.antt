@@ -1,5 +1,5 @@
 -- Rules are known by their bytes: which table of the header's kind can have them.
-use Rattle.std.proofs.Common.{◌≡◌, ℕ, ◌+◌, ◌*◌, ◌<◌, ◌≤◌, Bool, true, List, length, sym, refl, ap, ◌∙◌, arith, rules}
+use Rattle.std.proofs.Common.{◌≡◌, ℕ, true, List, length, refl, arith, rules}
 use Rattle.books.proofs.Proper.{formula_proper}
 use Rattle.books.proofs.Sound.{formula_sound}
 use Rattle.books.specs.Charts.{line_list}
@@ -13,7 +13,6 @@ use Rattle.books.specs.Tables.{node_list}
 use Rattle.codec.proofs.Coding.{known_list}
 use Rattle.codec.specs.Codes.{every}
 use Rattle.model.specs.declared.vocabulary.Vocabulary.{Vocabulary}
-use Rattle.std.proofs.lemmas.List.{length-take-le}
 use Rattle.std.specs.List.{flat_map}
 use Rattle.feeder.specs.declared.header.BookKind.TheVariants as kind
 use Rattle.feeder.specs.declared.header.Header.{Header}

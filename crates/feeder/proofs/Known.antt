@@ -1,5 +1,5 @@
 -- The parts of a record are known by their bytes: at most one header, one vocabulary and so on has them.
-use Rattle.std.proofs.Common.{◌≡◌, ℕ, ◌*◌, ◌/◌, ◌%◌, ◌<◌, Bool, true, ◌&&◌, List, [], ◌∷◌, ◌++◌, length, sym, refl, ap, ◌∙◌, arith, rules}
+use Rattle.std.proofs.Common.{◌≡◌, ℕ, ◌/◌, ◌%◌, ◌<◌, Bool, true, ◌&&◌, List, [], ◌∷◌, ◌++◌, length, sym, refl, ap, ◌∙◌, arith, rules}
 use Rattle.codec.proofs.Coding.{known_list}
 use Rattle.codec.specs.Codes.{every}
 use Rattle.model.proofs.Vocabularies.{same_vocabulary}

@@ -1,12 +1,11 @@
 -- Plants are known by their bytes: which table of the header's kind can have them.
-use Rattle.std.proofs.Common.{◌≡◌, ℕ, ◌+◌, ◌*◌, ◌<◌, ◌≤◌, Bool, true, List, [], ◌∷◌, ◌++◌, length, take, drop, sym, refl, ap, ◌∙◌, arith, rules}
-use Rattle.codec.proofs.Coding.{length_joined, same_back, same_front}
+use Rattle.std.proofs.Common.{◌≡◌, ℕ, ◌*◌, true, List, length, take, drop, refl, ap, ◌∙◌, arith, rules}
+use Rattle.codec.proofs.Coding.{length_joined}
 use Rattle.codec.proofs.Passing.{all_weaker}
 use Rattle.codec.specs.Codes.{every}
 use Rattle.model.specs.declared.vocabulary.Vocabulary.{Vocabulary}
 use Rattle.model.specs.Literals.{word_bytes}
 use Rattle.plants.proofs.Proper.{operator_proper}
-use Rattle.plants.proofs.Same.{same_actions, same_network}
 use Rattle.plants.proofs.Sound.{actions_sound}
 use Rattle.plants.specs.Actions.{operator_list}
 use Rattle.plants.specs.declared.actions.ActionTable.{ActionTable}
@@ -15,17 +14,16 @@ use Rattle.plants.specs.declared.network.Switch.{Switch}
 use Rattle.plants.specs.Networks.{network_bytes, switch_list}
 use Rattle.plants.specs.Operators.{operator_bytes, operator_fits}
 use Rattle.plants.specs.Switches.{switch_bytes}
-use Rattle.std.proofs.lemmas.List.{append-nil, drop_at, length-take-le, take_at}
+use Rattle.std.proofs.lemmas.List.{drop_at, length-take-le, take_at}
 use Rattle.std.specs.List.{flat_map}
 use Rattle.feeder.specs.declared.header.Header.{Header}
 use Rattle.feeder.specs.declared.header.PlantKind.TheVariants as kind
 use Rattle.feeder.specs.declared.tables.PlantTable.{PlantTable}
 use Rattle.feeder.specs.declared.tables.PlantTable.TheVariants.{Actions, Network as Wired}
 use Rattle.feeder.specs.Operators.{operator_holds}
-use Rattle.feeder.specs.Tables.{plant_bytes, plant_rows, plant_words}
+use Rattle.feeder.specs.Tables.{plant_bytes}
 use Rattle.feeder.specs.Verdicts.{Found, SuitPlant}
-use Rattle.feeder.proofs.Known.{known_plain, word_known}
-use Rattle.feeder.proofs.Shapes.{operators_known}
+use Rattle.feeder.proofs.Known.{known_plain}
 
 pub operators_hold : (t : ActionTable) → every operator_holds (operator_list t) ≡ true
 operators_hold t =

@@ -1,5 +1,5 @@
 -- The bytes of an operator: its counts stand in front and say how many bytes there are.
-use Rattle.std.proofs.Common.{◌≡◌, ℕ, ◌+◌, ◌*◌, ◌<◌, ◌≤◌, true, List, [], ◌∷◌, ◌++◌, length, get_or, drop, Some, None, Option, sym, refl, ap, ◌∙◌, arith, length-append}
+use Rattle.std.proofs.Common.{◌≡◌, ℕ, ◌+◌, ◌*◌, ◌<◌, ◌≤◌, true, List, [], ◌∷◌, ◌++◌, length, get_or, drop, Some, None, Option, sym, refl, ap, ◌∙◌, arith}
 use Rattle.codec.proofs.Coding.{length_joined}
 use Rattle.codec.specs.Codes.{Decoded, every}
 use Rattle.plants.proofs.Prefix.{operator_first}

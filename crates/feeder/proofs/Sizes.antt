@@ -1,5 +1,5 @@
 -- The size of several operators is that of the first and then of the others.
-use Rattle.std.proofs.Common.{◌≡◌, ℕ, suc, ◌+◌, ◌-◌, ◌<◌, List, drop, refl, ap, ◌∙◌, arith}
+use Rattle.std.proofs.Common.{◌≡◌, ℕ, suc, ◌+◌, ◌-◌, ◌<◌, List, drop, refl, ap, arith}
 use Rattle.feeder.specs.Layouts.{operator_size, operators_size}
 
 pub size_step : (n i : ℕ) (rest : List ℕ) → i < n

@@ -1,11 +1,10 @@
 -- One step of reading: what is found in a part passes its check, and where nothing is found the check fails, since the
 -- header and the vocabulary of a record are the only ones.
-use Rattle.std.proofs.Common.{◌≡◌, ℕ, ◌+◌, ◌-◌, List, take, drop, Some, None, Option, sym, ap, ◌∙◌, subst, arith}
+use Rattle.std.proofs.Common.{◌≡◌, ℕ, ◌+◌, ◌-◌, List, take, drop, Option, ap, ◌∙◌, subst, arith}
 use Rattle.model.specs.declared.vocabulary.Vocabulary.{Vocabulary}
 use Rattle.feeder.specs.declared.header.Header.{Header}
 use Rattle.feeder.specs.declared.refusal.ReadRefusal.TheVariants.{Predicates}
-use Rattle.feeder.specs.Verdicts.{Found, HasHeader, HasWith, HasWords, PartRead, Passed, Refused, part}
-use Rattle.feeder.proofs.Checks.{passed_more}
+use Rattle.feeder.specs.Verdicts.{HasHeader, HasWith, HasWords, PartRead, Passed, Refused, part}
 use Rattle.feeder.proofs.Known.{header_one, words_one}
 
 -- a slice of the record, as the code cuts it and as the definitions have it

@@ -1,6 +1,6 @@
 -- A record and its feeder: the bytes of a feeder have its parts in their places, so they pass every check, and no other
 -- feeder has them; and bytes that have parts that suit each other are those of the feeder made of them.
-use Rattle.std.proofs.Common.{◌≡◌, ℕ, suc, ◌+◌, ◌*◌, ◌<◌, ◌≤◌, Bool, true, ◌&&◌, eqb, leb, List, [], ◌∷◌, ◌++◌, map, length, get_or, take, drop, Ok, Err, Result, sym, refl, ap, ◌∙◌, subst, ⊎_elim, arith, length-append, take-append-drop}
+use Rattle.std.proofs.Common.{◌≡◌, ℕ, ◌+◌, ◌*◌, ◌≤◌, true, eqb, leb, List, [], ◌∷◌, ◌++◌, map, length, get_or, take, drop, Ok, Err, Result, sym, refl, ap, ◌∙◌, subst, ⊎_elim, arith, length-append, take-append-drop}
 use denote.Struct.Record.{values_one}
 use Rattle.books.proofs.Sound.{same_chart, same_formula_table}
 use Rattle.books.specs.Charts.{line_list}
@@ -10,7 +10,6 @@ use Rattle.books.specs.Lines.{line_bytes}
 use Rattle.books.specs.Nodes.{node_bytes, node_proper}
 use Rattle.books.specs.Tables.{node_list}
 use Rattle.codec.proofs.Coding.{length_joined}
-use Rattle.codec.specs.Codes.{every}
 use Rattle.model.proofs.Goals.{same_goal}
 use Rattle.model.proofs.Pictures.{members_few, same_picture}
 use Rattle.model.proofs.Vocabularies.{same_vocabulary}
@@ -22,15 +21,15 @@ use Rattle.model.specs.Facts.{arity_byte}
 use Rattle.model.specs.Goals.{goal_list}
 use Rattle.model.specs.Literals.{literal_bytes, word_bytes}
 use Rattle.model.specs.Pictures.{members}
-use Rattle.model.specs.Vocabularies.{arity_list, fact_total}
+use Rattle.model.specs.Vocabularies.{arity_list}
 use Rattle.plants.proofs.Same.{same_actions, same_network}
 use Rattle.plants.proofs.Sound.{network_sound}
 use Rattle.plants.specs.Actions.{operator_list}
 use Rattle.plants.specs.declared.operator.Operator.{Operator}
 use Rattle.plants.specs.Networks.{switch_list}
 use Rattle.plants.specs.Operators.{operator_bytes}
-use Rattle.plants.specs.Switches.{network_arities, switch_bytes}
-use Rattle.std.proofs.lemmas.List.{append_assoc, append-nil, drop_at, drop-drop, get_or-take, length-drop, length-map, length-take, length-take-le, take_all, take_at}
+use Rattle.plants.specs.Switches.{switch_bytes}
+use Rattle.std.proofs.lemmas.List.{append_assoc, append-nil, drop_at, drop-drop, get_or-take, length-take, length-take-le, take_all, take_at}
 use Rattle.std.proofs.lemmas.Bool.{and_from, cases_lt, eq-eqb, le-leb}
 use Rattle.std.specs.List.{flat_map}
 use Rattle.feeder.specs.contracts.header.Header as header
@@ -50,13 +49,13 @@ use Rattle.feeder.specs.Layouts.{called_for, facts_at, goal_at, operator_size, o
 use Rattle.feeder.specs.Records.{arity_bytes, encode, goal_bytes, header_of, picture_bytes}
 use Rattle.feeder.specs.Refusals.{read_number}
 use Rattle.feeder.specs.Tables.{plant_bytes, plant_kind, plant_rows, plant_words, rule_bytes, rule_kind, rule_rows, rule_words, word_code}
-use Rattle.feeder.specs.Verdicts.{Check, HasFirst, HasGoal, HasHeader, HasPlant, HasRules, HasWords, KindWords, SuitPlant, SuitRules, SuitWords, Verdict}
+use Rattle.feeder.specs.Verdicts.{Check, HasFirst, HasGoal, HasHeader, HasPlant, HasRules, HasWords, KindWords, Verdict}
 use Rattle.feeder.proofs.Books.{lines_known, node_size, nodes_known, nodes_proper}
 use Rattle.feeder.proofs.Checks.{same_refusal}
 use Rattle.feeder.proofs.Cuts.{cut, cut_last, length_part}
 use Rattle.feeder.proofs.Known.{arity_known, header_one, literals_known, word_known, words_list_known, words_one}
 use Rattle.feeder.proofs.Plants.{feeds_back, length_operators, length_switch_bytes, length_switches, operators_hold, switches_front, switches_known}
-use Rattle.feeder.proofs.Shapes.{begins, length_operator, operators_known}
+use Rattle.feeder.proofs.Shapes.{begins, operators_known}
 
 -- how long the parts of a feeder's record are
 length_arities : (v : Vocabulary) → length (arity_list v) ≡ v.predicates

@@ -1,5 +1,5 @@
 -- Headers: the first eleven bytes of a record and the limits of their values.
-use Rattle.std.specs.Prelude.{ℕ, Bool, ◌&&◌, List, [], ◌∷◌, ◌==◌, nat_le}
+use Rattle.std.specs.Prelude.{ℕ, Bool, ◌&&◌, List, ◌∷◌, ◌==◌, nat_le}
 use Rattle.model.specs.Literals.{word_bytes}
 use Rattle.feeder.specs.declared.header.BookKind.{BookKind}
 use Rattle.feeder.specs.declared.header.BookKind.TheVariants.{Chart, Formula}

@@ -1,5 +1,5 @@
 -- Tables: the kind, size, vocabulary and bytes of a feeder's plant and rules.
-use Rattle.std.specs.Prelude.{ℕ, ◌+◌, Bool, true, ◌&&◌, ◌||◌, List, ◌∷◌, map, nat_le, nat_lt}
+use Rattle.std.specs.Prelude.{ℕ, ◌+◌, Bool, ◌&&◌, ◌||◌, List, ◌∷◌, map, nat_le, nat_lt}
 use Rattle.books.specs.Charts.{line_list}
 use Rattle.books.specs.Lines.{line_bytes}
 use Rattle.books.specs.Nodes.{node_bytes}

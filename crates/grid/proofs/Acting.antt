@@ -1,5 +1,5 @@
 -- Actions and their numbers, and the law of a move: an action is known by its number, and what it changes is what it says.
-use Rattle.std.proofs.Common.{◌≡◌, ℕ, zero, suc, ◌+◌, ◌*◌, ◌/◌, ◌%◌, ◌^◌, ◌<◌, ◌≤◌, Bool, true, false, cond, not, ◌&&◌, eqb, ltb, get_or, Some, None, Decides, Option, sym, refl, ap, ◌∙◌, subst, ⊎_elim, arith, pow_mono}
+use Rattle.std.proofs.Common.{◌≡◌, ℕ, zero, suc, ◌+◌, ◌*◌, ◌/◌, ◌%◌, ◌^◌, ◌<◌, ◌≤◌, Bool, true, false, cond, not, ◌&&◌, eqb, ltb, Some, None, Decides, Option, sym, refl, ap, ◌∙◌, subst, ⊎_elim, arith, pow_mono}
 use Rattle.model.specs.Drawn.{bits_below}
 use Rattle.model.specs.Pictures.{bit}
 use Rattle.model.proofs.Bits.{bit_past}

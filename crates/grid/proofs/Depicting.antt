@@ -1,10 +1,8 @@
 -- The picture of a state: the three predicates of a network have their facts one after the other, and each says what it is
 -- defined to say.
-use Rattle.std.proofs.Common.{◌≡◌, ℕ, zero, suc, ◌+◌, ◌-◌, ◌*◌, ◌<◌, ◌≤◌, Bool, true, false, cond, ◌&&◌, ltb, List, [], length, get_or, take, Decides, sym, refl, ap, ◌∙◌, ⊎_elim, arith}
-use Rattle.model.specs.declared.picture.Picture.{Picture}
+use Rattle.std.proofs.Common.{◌≡◌, ℕ, ◌+◌, ◌-◌, ◌*◌, ◌<◌, Bool, cond, ◌&&◌, ltb, List, length, get_or, take, Decides, sym, refl, ap, ◌∙◌, ⊎_elim, arith}
 use Rattle.model.specs.declared.vocabulary.Arity.{Arity}
-use Rattle.model.specs.declared.vocabulary.Arity.TheVariants.{Zero, One}
-use Rattle.model.specs.Drawn.{picture_of}
+use Rattle.model.specs.declared.vocabulary.Arity.TheVariants.{Zero}
 use Rattle.model.specs.Facts.{facts}
 use Rattle.model.specs.Numbering.{place}
 use Rattle.model.specs.Pictures.{bit, holds}

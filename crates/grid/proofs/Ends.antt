@@ -1,8 +1,7 @@
 -- The ends of a network's switches are two of its sections.
-use Rattle.std.proofs.Common.{◌≡◌, ℕ, ◌<◌, ◌≤◌, true, not, ◌&&◌, eqb, ltb, length, get_or, take, sym, ap, ◌∙◌, arith}
+use Rattle.std.proofs.Common.{◌≡◌, ℕ, ◌<◌, ◌≤◌, true, not, ◌&&◌, eqb, ltb, length, take, sym, ap, ◌∙◌, arith}
 use Rattle.codec.proofs.Coding.{every_at}
 use Rattle.plants.specs.declared.network.Network.{Network}
-use Rattle.plants.specs.declared.network.Switch.{Switch}
 use Rattle.plants.specs.Switches.{blank_switch, switch_fits}
 use Rattle.std.proofs.lemmas.List.{get_or-take, length-take-le}
 use Rattle.std.proofs.lemmas.Bool.{and_parts, ltb-true}

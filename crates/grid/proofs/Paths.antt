@@ -1,6 +1,6 @@
 -- A path need not be longer than there are sections. The sections joined by paths of at most n switches grow with n, and
 -- once one round adds nothing no later one does; each round before that adds one at least.
-use Rattle.std.proofs.Common.{◌≡◌, ℕ, zero, suc, ◌<◌, Bool, true, false, ◌&&◌, ◌||◌, eqb, ltb, Decides, sym, refl, ap, ◌∙◌, subst, ⊎_elim, arith}
+use Rattle.std.proofs.Common.{◌≡◌, ℕ, zero, suc, ◌<◌, Bool, true, ◌&&◌, ◌||◌, eqb, Decides, sym, refl, ap, ◌∙◌, subst, ⊎_elim, arith}
 use Rattle.model.proofs.Growth.{stable_end}
 use Rattle.plants.specs.declared.network.Network.{Network}
 use Rattle.std.proofs.lemmas.Bool.{and_from, and_parts, cases_eq, eq-eqb, eqb-true, false≢true, or_cases, or_left, or_right}

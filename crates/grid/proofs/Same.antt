@@ -1,5 +1,5 @@
 -- A set of sections is known by its bits, and a state by its positions and earths.
-use Rattle.std.proofs.Common.{◌≡◌, ℕ, ◌<◌, Bool, List, sym, ◌∙◌}
+use Rattle.std.proofs.Common.{◌≡◌, ℕ, ◌<◌, Bool, sym, ◌∙◌}
 use denote.Struct.Record.{values_one}
 use Rattle.model.specs.Drawn.{bits_below}
 use Rattle.model.specs.Pictures.{bit}

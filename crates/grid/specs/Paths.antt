@@ -1,5 +1,5 @@
 -- Paths: which sections are joined to some source by closed switches.
-use Rattle.std.specs.Prelude.{◌≡◌, ℕ, zero, suc, ◌<◌, Bool, true, false, ◌&&◌, ◌||◌, ◌==◌, slice_index_or}
+use Rattle.std.specs.Prelude.{◌≡◌, ℕ, zero, suc, Bool, true, false, ◌&&◌, ◌||◌, ◌==◌, slice_index_or}
 use Rattle.plants.specs.declared.network.Network.{Network}
 use Rattle.plants.specs.declared.network.Switch.{Switch}
 use Rattle.plants.specs.Switches.{blank_switch}

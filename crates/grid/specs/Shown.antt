@@ -1,7 +1,6 @@
 -- The picture of a network's state, fact by fact.
-use Rattle.std.specs.Prelude.{◌≡◌, ℕ, ◌+◌, ◌-◌, ◌<◌, ◌≤◌, Bool, true, false, cond, ◌&&◌, Decides, nat_lt}
+use Rattle.std.specs.Prelude.{◌≡◌, ℕ, ◌+◌, ◌-◌, ◌<◌, ◌≤◌, Bool, false, cond, ◌&&◌, Decides, nat_lt}
 use Rattle.model.specs.declared.picture.Picture.{Picture}
-use Rattle.model.specs.declared.term.Atom.{Atom}
 use Rattle.model.specs.declared.term.Term.TheVariants.{Object}
 use Rattle.model.specs.Drawn.{picture_of}
 use Rattle.model.specs.Numbering.{number_of}

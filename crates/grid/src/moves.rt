@@ -3,7 +3,7 @@ ghost use Rattle.grid.specs.Actions.{acted, argument, changes, network_allowed, 
 ghost use Rattle.grid.specs.Laws.{CanMove, Possible, Stepped};
 ghost use Rattle.grid.specs.Shown.{network_shown};
 ghost use Rattle.grid.specs.States.{first_state};
-ghost use borrow.Author.Rules.{rules};
+ghost use Rattle.std.proofs.Common.{rules};
 
 use crate::action::Action;
 use crate::plant::NetworkPlant;

@@ -1,5 +1,5 @@
 -- Assignments one over the other: objects put in first, and then those of a second assignment.
-use Rattle.std.proofs.Common.{◌≡◌, ℕ, Bool, true, false, cond, eqb, Some, None, Option, sym, refl, ap, ◌∙◌}
+use Rattle.std.proofs.Common.{◌≡◌, ℕ, Bool, true, false, cond, eqb, Some, None, Option, refl}
 use mathlib.Core.Path.{fun_ext}
 use Rattle.model.specs.declared.term.Atom.{Atom}
 use Rattle.model.specs.declared.term.Term.{Term}

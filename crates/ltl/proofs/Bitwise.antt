@@ -1,10 +1,9 @@
 -- Numbers made from tests, bit by bit.
-use Rattle.std.proofs.Common.{◌≡◌, ℕ, zero, suc, ◌+◌, ◌-◌, ◌*◌, ◌^◌, ◌<◌, ◌≤◌, Bool, true, false, cond, not, ◌&&◌, ◌||◌, ltb, sym, refl, ap, ◌∙◌, pow-suc, add-one, arith}
+use Rattle.std.proofs.Common.{◌≡◌, ℕ, zero, suc, ◌+◌, ◌-◌, ◌*◌, ◌^◌, ◌<◌, Bool, true, false, cond, ◌&&◌, ◌||◌, refl, pow-suc, arith}
 use mir.Val.{bool_byte}
 use lib.Bits.{bit_and, bit_or, or_lt, and_le_l}
 use Rattle.model.specs.Drawn.{bits_below, bits_of}
-use Rattle.model.specs.Pictures.{bit}
-use Rattle.model.proofs.Bits.{bit-bit_and, bit_mask, bit-bit_or, same_bits}
+use Rattle.model.proofs.Bits.{bit-bit_and, bit-bit_or, same_bits}
 use Rattle.model.proofs.Drawn.{bit_bits}
 
 pub bits_same : (n : ℕ) (s t : ℕ → Bool) → ((k : ℕ) → k < n → s k ≡ t k) → bits_of n s ≡ bits_of n t

@@ -1,18 +1,16 @@
 -- What formulas mean that come out of a progression: constants, connectives just formed, and formulas with objects put in.
-use Rattle.std.proofs.Common.{◌≡◌, ℕ, zero, suc, ◌<◌, ◌≤◌, Bool, true, false, cond, ◌⊎◌, List, [], ◌∷◌, ◌++◌, map, sym, refl, ap, ◌∙◌, subst, inl, inr, ⊎_elim, arith}
-use Rattle.books.specs.Trees.{Formula, always, atom, conjunction, disjunction, eventually, exists, falsity, for_all, goal, negation, next, same, truth, until}
+use Rattle.std.proofs.Common.{◌≡◌, ℕ, zero, suc, ◌<◌, Bool, true, false, ◌⊎◌, List, [], ◌∷◌, ◌++◌, map, sym, refl, ap, ◌∙◌, subst, inl, inr, ⊎_elim, arith}
+use Rattle.books.specs.Trees.{Formula, conjunction, disjunction, falsity, negation, truth}
 use Rattle.model.specs.declared.goal.Goal.{Goal}
 use Rattle.model.specs.declared.picture.Picture.{Picture}
 use Rattle.model.specs.declared.vocabulary.Vocabulary.{Vocabulary}
 use Rattle.model.specs.Pictures.{chosen}
 use Rattle.model.proofs.Chosen.{chosen_left, chosen_taken}
-use Rattle.std.proofs.lemmas.Bool.{cases_Bool, cases_eq, false≢true, true≢false}
-use Rattle.ltl.specs.Assignments.{Assignment, bind, object_under, put_term, unassigned, unbind}
+use Rattle.std.proofs.lemmas.Bool.{cases_Bool, cases_eq, false≢true}
+use Rattle.ltl.specs.Assignments.{Assignment}
 use Rattle.ltl.specs.Laws.{Iff}
-use Rattle.ltl.specs.Progression.{Standing, all_of, any_of, both, both_by, constant, either, either_by, opposite, opposite_by, pending, put, standing}
-use Rattle.ltl.specs.Truth.{Holds, picks}
-use Rattle.ltl.proofs.Assigning.{object_put, over, over_bind}
-use Rattle.ltl.proofs.Putting.{atom_put, goal_put, range_put}
+use Rattle.ltl.specs.Progression.{Standing, all_of, any_of, both, constant, either, opposite, opposite_by, standing}
+use Rattle.ltl.specs.Truth.{Holds}
 use Rattle.ltl.proofs.Simplifying.{both_falsity, both_pending, both_truth, by_cases, either_falsity, either_pending, either_truth}
 
 pub iff_chain : {P Q R : Type 0} → Iff P Q → Iff Q R → Iff P R

@@ -1,6 +1,6 @@
 -- What is known where nothing is known behind the pictures is what progression through them gives: a formula is known to be
 -- TRUE, or FALSE, at a position just where progressing it through the pictures from there on gives TRUE, or FALSE.
-use Rattle.std.proofs.Common.{◌≡◌, ℕ, zero, suc, ◌+◌, ◌-◌, ◌<◌, ◌≤◌, Bool, true, false, cond, not, ◌&&◌, ◌||◌, eqb, ltb, List, [], ◌∷◌, map, length, get_or, drop, sym, refl, ap, ◌∙◌, ⊎_elim, add-one, arith}
+use Rattle.std.proofs.Common.{◌≡◌, ℕ, zero, suc, ◌+◌, ◌-◌, ◌<◌, ◌≤◌, Bool, true, false, not, ◌&&◌, ◌||◌, eqb, ltb, List, ◌∷◌, length, get_or, drop, sym, refl, ap, ◌∙◌, ⊎_elim, add-one, arith}
 use mathlib.Core.Path.{fun_ext}
 use Rattle.books.specs.Trees.{Formula, always, atom, conjunction, disjunction, eventually, exists, falsity, for_all, goal, negation, next, same, truth, until}
 use Rattle.model.specs.declared.goal.Goal.{Goal}
@@ -10,12 +10,12 @@ use Rattle.std.proofs.lemmas.List.{drop_all, drop_more}
 use Rattle.std.proofs.lemmas.Bool.{cases_lt, cond-false, cond-true, le-ltb, lt-ltb}
 use Rattle.ltl.specs.Assignments.{Assignment, bind, object_under, unassigned}
 use Rattle.ltl.specs.Classes.{Class, ahead, all_under, class_at, unknown, some_under, told, within}
-use Rattle.ltl.specs.Progression.{all_of, any_of, both, constant, either, opposite, picked, progress, progress_through, progressed, put}
+use Rattle.ltl.specs.Progression.{both, constant, either, opposite, picked, progress_through, progressed, put}
 use Rattle.ltl.specs.Truth.{atom_true, goal_true, picks}
-use Rattle.ltl.proofs.Assigning.{over, over_unassigned}
+use Rattle.ltl.proofs.Assigning.{over_unassigned}
 use Rattle.ltl.proofs.Putting.{progressed_put}
 use Rattle.ltl.proofs.Simplifying.{through_all, through_any, through_both, through_either, through_falsity, through_opposite, through_truth}
-use Rattle.ltl.proofs.Standing.{class_all, class_any, class_as, class_both, class_constant, class_either, class_of, class_opposite, every_class, join, meet, some_class, turn}
+use Rattle.ltl.proofs.Standing.{class_all, class_any, class_as, class_both, class_constant, class_either, class_opposite, join, meet, turn}
 
 -- a factor that two have in common
 shared : (a b c : Bool) → (a && (b || c)) ≡ ((b && a) || (a && c))

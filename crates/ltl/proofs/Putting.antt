@@ -1,6 +1,6 @@
 -- Objects put in for variables: a formula with them put in means, and progresses to, what the formula does where the
 -- variables stand for these objects.
-use Rattle.std.proofs.Common.{◌≡◌, ℕ, suc, ◌<◌, ◌≤◌, Bool, true, false, eqb, List, [], ◌∷◌, map, sym, refl, ap, ◌∙◌, subst}
+use Rattle.std.proofs.Common.{◌≡◌, ℕ, List, map, refl, ap, ◌∙◌}
 use mathlib.Core.Path.{fun_ext}
 use Rattle.books.specs.Trees.{Formula, always, atom, conjunction, disjunction, eventually, exists, falsity, for_all, goal, negation, next, same, truth, until}
 use Rattle.model.specs.declared.goal.Goal.{Goal}
@@ -10,9 +10,9 @@ use Rattle.model.specs.declared.vocabulary.Vocabulary.{Vocabulary}
 use Rattle.model.specs.Goals.{goal_list}
 use Rattle.model.specs.Numbering.{number_of}
 use Rattle.model.specs.Pictures.{chosen, holds}
-use Rattle.ltl.specs.Assignments.{Assignment, bind, ground, object_under, put_atom, put_term, unassigned, unbind}
-use Rattle.ltl.specs.Progression.{all_of, any_of, both, constant, either, opposite, picked, progress, progressed, put}
-use Rattle.ltl.specs.Truth.{Holds, atom_true, goal_true, picks, wanted}
+use Rattle.ltl.specs.Assignments.{Assignment, bind, put_atom, unbind}
+use Rattle.ltl.specs.Progression.{all_of, any_of, constant, opposite, picked, progressed, put}
+use Rattle.ltl.specs.Truth.{atom_true, goal_true, picks, wanted}
 use Rattle.ltl.proofs.Assigning.{ground_put, object_put, over, over_bind, over_unbind, put_put_atom, put_put_term}
 
 module _ (v : Vocabulary) (g : Goal) where

@@ -1,13 +1,13 @@
 -- Progression is sound, operator by operator; a formula with objects put in means what it means with these objects.
-use Rattle.std.proofs.Common.{◌≡◌, ℕ, zero, suc, ◌<◌, ◌≤◌, Bool, true, false, eqb, ◌⊎◌, List, sym, refl, ap, ◌∙◌, subst, inl, inr, ⊎_elim, arith}
+use Rattle.std.proofs.Common.{ℕ, suc, eqb, ◌⊎◌, sym, ◌∙◌, subst, inl, inr, ⊎_elim, arith}
 use Rattle.books.specs.Trees.{Formula, always, atom, conjunction, disjunction, eventually, exists, falsity, for_all, goal, negation, next, same, truth, until}
 use Rattle.model.specs.declared.goal.Goal.{Goal}
 use Rattle.model.specs.declared.picture.Picture.{Picture}
 use Rattle.model.specs.declared.vocabulary.Vocabulary.{Vocabulary}
-use Rattle.std.proofs.lemmas.Bool.{cases_eq, cases_lt, eq-eqb, eqb-true}
-use Rattle.ltl.specs.Assignments.{Assignment, bind, object_under, put_atom, put_term, unassigned, unbind}
+use Rattle.std.proofs.lemmas.Bool.{cases_eq, eq-eqb, eqb-true}
+use Rattle.ltl.specs.Assignments.{Assignment, bind, object_under, put_atom, unassigned, unbind}
 use Rattle.ltl.specs.Laws.{Iff, ProgressionSound}
-use Rattle.ltl.specs.Progression.{all_of, any_of, both, constant, either, opposite, picked, progress, progressed, put}
+use Rattle.ltl.specs.Progression.{both, progressed, put}
 use Rattle.ltl.specs.Truth.{Holds, atom_true, goal_true, picks}
 use Rattle.ltl.proofs.Assigning.{object_put, over, over_bind, over_unassigned}
 use Rattle.ltl.proofs.Meaning.{holds_all, holds_any, holds_both, holds_constant, holds_either, holds_opposite, iff_back, iff_chain, iff_true, same_assignment}

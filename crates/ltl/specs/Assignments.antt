@@ -1,5 +1,5 @@
 -- Assignments: which objects the variables of a formula stand for.
-use Rattle.std.specs.Prelude.{ℕ, Bool, cond, Some, None, Option, ◌==◌}
+use Rattle.std.specs.Prelude.{ℕ, cond, Some, None, Option, ◌==◌}
 use Rattle.model.specs.declared.term.Atom.{Atom}
 use Rattle.model.specs.declared.term.Term.{Term}
 use Rattle.model.specs.declared.term.Term.TheVariants.{Object, Variable}

@@ -1,5 +1,5 @@
 -- Progression: what is left of a formula after a picture, as a formula.
-use Rattle.std.specs.Prelude.{ℕ, Bool, true, false, cond, List, [], ◌∷◌, map, ◌==◌}
+use Rattle.std.specs.Prelude.{ℕ, Bool, true, false, List, [], ◌∷◌, map, ◌==◌}
 use Rattle.books.specs.Trees.{Formula, always, atom, conjunction, disjunction, eventually, exists, falsity, for_all, goal, negation, next, same, truth, until}
 use Rattle.model.specs.declared.goal.Goal.{Goal}
 use Rattle.model.specs.declared.picture.Picture.{Picture}

@@ -8,7 +8,7 @@ use crate::classes::Classes;
 
 // The bits of the first n positions.
 fn low(n: u8) -> u32
-    requires { n ≤ 25 }
+    requires { n ≤ 26 }
     ensures { result ≡ 2 ^ n - 1 }
 {
     (1 << n) - 1
@@ -32,7 +32,7 @@ fn ahead(n: u8, end: bool, stay: u32, hit: u32) -> u32
 
 impl Classes {
     // What is always known.
-    pub fn constant(n: u8, value: bool) -> Classes
+    pub(crate) fn constant(n: u8, value: bool) -> Classes
         requires { n ≤ 25 }
         ensures { Masked n (λ i. told value) result }
     {

@@ -34,6 +34,10 @@ module _ (op : ℕ → ℕ → ℕ) (join : Bool → Bool → Bool)
 pub bit-bit_or : (a b k : ℕ) → bit (bit_or a b) k ≡ (bit a k || bit b k)
 bit-bit_or = each_bit bit_or ◌||◌ or_shr or_mod refl refl refl refl
 
+-- the law of one bit
+one_or : (p q : ℕ) → p < 2 → q < 2 → eqb (bit_or p q) 1 ≡ (eqb p 1 || eqb q 1)
+one_or = one_bit bit_or ◌||◌ or_shr or_mod refl refl refl refl
+
 pub bit-bit_and : (a b k : ℕ) → bit (bit_and a b) k ≡ (bit a k && bit b k)
 bit-bit_and = each_bit bit_and ◌&&◌ and_shr and_mod refl refl refl refl
 

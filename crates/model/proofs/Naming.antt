@@ -1,5 +1,5 @@
 -- Naming facts: the predicate of an atom that fits exists, and its first fact lies behind those of the others.
-use Rattle.std.proofs.Common.{◌≡◌, ℕ, ◌+◌, ◌<◌, ◌≤◌, Bool, true, false, cond, ltb, List, length, get_or, take, Some, None, Option, sym, refl, ap, ◌∙◌, ⊎_elim, arith}
+use Rattle.std.proofs.Common.{◌≡◌, ℕ, ◌+◌, ◌<◌, ◌≤◌, true, ltb, List, length, get_or, take, Some, None, Option, sym, ap, ◌∙◌, ⊎_elim}
 use Rattle.std.proofs.lemmas.List.{take_more, take-take}
 use Rattle.std.proofs.lemmas.Bool.{cases_Bool, cond-false, cond-true, false≢true, lt-ltb, ltb-true}
 use Rattle.model.specs.declared.term.Atom.{Atom}
@@ -8,7 +8,7 @@ use Rattle.model.specs.declared.vocabulary.Arity.TheVariants.{Zero}
 use Rattle.model.specs.declared.vocabulary.Vocabulary.{Vocabulary}
 use Rattle.model.specs.Facts.{facts, facts_of}
 use Rattle.model.specs.Numbering.{first_fact}
-use Rattle.model.specs.Vocabularies.{arity_at, arity_list, atom_fits, terms_fit}
+use Rattle.model.specs.Vocabularies.{arity_at, atom_fits, terms_fit}
 use Rattle.model.proofs.Counting.{facts_push}
 
 pub fits_below : (v : Vocabulary) (vars : ℕ) (a : Atom) → atom_fits v vars a ≡ true → a.predicate < v.predicates

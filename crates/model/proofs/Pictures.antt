@@ -1,14 +1,15 @@
 -- Pictures: a picture is known by its members, and they are sound.
-use Rattle.std.proofs.Common.{◌≡◌, ℕ, ◌+◌, ◌*◌, ◌/◌, ◌%◌, ◌^◌, ◌<◌, ◌≤◌, Bool, false, ◌||◌, eqb, List, [], ◌∷◌, ◌++◌, length, get_or, set, sym, ap, ◌∙◌, ⊎_elim, arith}
+use Rattle.std.proofs.Common.{◌≡◌, ℕ, ◌+◌, ◌*◌, ◌/◌, ◌%◌, ◌^◌, ◌<◌, ◌≤◌, Bool, false, ◌||◌, eqb, List, [], ◌∷◌, ◌++◌, length, get_or, set, sym, refl, ap, ◌∙◌, ⊎_elim, arith}
 use denote.Struct.Record.{values_one}
-use Rattle.std.proofs.lemmas.Nat.{mod_below}
+use lib.Bits.{bit_or}
+use Rattle.std.proofs.lemmas.Nat.{mod_below, or_lt}
 use Rattle.std.proofs.lemmas.List.{ext_get_or, get_or_past, get_or-set_other, get_or-set_same}
 use Rattle.std.proofs.lemmas.Bool.{cases_eq, eq-eqb, ne_eqb}
 use Rattle.model.specs.contracts.picture.Picture.{struct, the_propositions}
 use Rattle.model.specs.declared.picture.Picture.{Picture}
 use Rattle.model.specs.Ascents.{SoundFacts}
 use Rattle.model.specs.Pictures.{bit, holds, members}
-use Rattle.model.proofs.Bits.{bit_none, same_bits}
+use Rattle.model.proofs.Bits.{bit_joined, bit_none, same_bits}
 use Rattle.model.proofs.Chosen.{chosen_few, chosen_known, chosen_none, chosen_push, chosen_sound}
 
 pub members_sound : (p : Picture) → SoundFacts (members p)
@@ -91,3 +92,19 @@ pub members_push : (p q : Picture) (f : ℕ) → f < 512 → ((g : ℕ) → hold
     → members q ≡ members p ++ (f ∷ [])
 unfolding members
 members_push p q f h e z = chosen_push 512 f (holds p) (holds q) h e z
+
+-- the words in which the bit of one fact more is set, as the code sets it
+abbrev pub with_fact : List ℕ → ℕ → List ℕ
+with_fact words f = set words (f / 64) (bit_or (get_or words (f / 64) 0) (1 * 2 ^ (f % 64) % 2 ^ 64))
+
+pub with_fact_bit : (words : List ℕ) (f : ℕ) → f / 64 < length words → (g : ℕ)
+    → bit (get_or (with_fact words f) (g / 64) 0) (g % 64) ≡ (eqb g f || bit (get_or words (g / 64) 0) (g % 64))
+with_fact_bit words f h =
+    changed_bit ◌||◌ (λ b. refl) words f _ h (λ j l. bit_joined 64 (get_or words (f / 64) 0) (f % 64) j (mod_below f 64 (omega arith)))
+
+pub with_fact_small : (words : List ℕ) (f : ℕ) → f / 64 < length words → ((i : ℕ) → get_or words i 0 < 2 ^ 64)
+    → (i : ℕ) → get_or (with_fact words f) i 0 < 2 ^ 64
+with_fact_small words f h s =
+    let old = get_or words (f / 64) 0 in
+    let power : 1 * 2 ^ (f % 64) % 2 ^ 64 < 2 ^ 64 = mod_below (1 * 2 ^ (f % 64)) (2 ^ 64) (omega arith) in
+    changed_small words (f / 64) _ h s (or_lt 64 old (1 * 2 ^ (f % 64) % 2 ^ 64) (s (f / 64)) power)

@@ -1,5 +1,5 @@
 -- Atoms: predicates applied to terms, their bytes, and which of them a vocabulary has.
-use Rattle.std.specs.Prelude.{ℕ, ◌+◌, Bool, true, false, ◌&&◌, List, [], ◌∷◌, nat_lt}
+use Rattle.std.specs.Prelude.{ℕ, ◌+◌, Bool, ◌&&◌, List, [], ◌∷◌, nat_lt}
 use Rattle.model.specs.declared.term.Atom.{Atom}
 use Rattle.model.specs.declared.term.Term.{Term}
 use Rattle.model.specs.declared.term.Term.TheVariants.{Object, Variable}

@@ -1,5 +1,5 @@
 -- Drawn pictures: the picture in which just those facts hold that pass a test.
-use Rattle.std.specs.Prelude.{◌≡◌, ℕ, zero, suc, ◌+◌, ◌*◌, ◌^◌, ◌<◌, Bool, true, false, cond, List, [], ◌∷◌, slice_index, refl}
+use Rattle.std.specs.Prelude.{ℕ, zero, suc, ◌+◌, ◌*◌, ◌^◌, ◌<◌, Bool, true, false, cond, List, [], ◌∷◌, slice_index, refl}
 use Rattle.std.proofs.Common.{pow-suc, arith}
 use Rattle.model.specs.declared.picture.Picture.{Picture}
 

@@ -1,4 +1,4 @@
--- Runs: lists of one or more pictures, of which the last stays for ever, and what a label takes in.
+-- Runs: lists of pictures, none of them empty, whose last picture goes on for ever, and what a label takes in.
 use Rattle.std.specs.Prelude.{ℕ, zero, suc, List, [], ◌∷◌}
 use Rattle.model.specs.declared.picture.Picture.{Picture}
 

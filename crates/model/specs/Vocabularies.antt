@@ -1,5 +1,5 @@
 -- Vocabularies: what one is made from, and which atoms it has.
-use Rattle.std.specs.Prelude.{◌≡◌, ℕ, Bool, true, false, cond, ◌&&◌, List, take, Some, None, Option, ◌==◌, nat_lt, slice_index_or}
+use Rattle.std.specs.Prelude.{◌≡◌, ℕ, Bool, false, cond, ◌&&◌, List, take, Some, None, Option, ◌==◌, nat_lt, slice_index_or}
 use Rattle.model.specs.declared.term.Atom.{Atom}
 use Rattle.model.specs.declared.term.Term.{Term}
 use Rattle.model.specs.declared.term.Term.TheVariants.{Object, Variable}

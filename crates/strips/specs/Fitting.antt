@@ -1,5 +1,5 @@
 -- The ground atoms of a move: each is one of the vocabulary, since its arguments are objects, so its fact is below 512.
-use Rattle.std.specs.Prelude.{◌≡◌, ℕ, zero, suc, ◌+◌, ◌<◌, ◌≤◌, Bool, true, false, ltb, List, [], ◌∷◌, take, drop, Some, None, Option, ◌==◌, nat_lt, slice_index_or, refl}
+use Rattle.std.specs.Prelude.{◌≡◌, ℕ, zero, suc, ◌+◌, ◌<◌, ◌≤◌, Bool, true, ltb, List, [], ◌∷◌, take, drop, Some, None, Option, ◌==◌, nat_lt, slice_index_or, refl}
 use Rattle.std.proofs.Common.{⊎_elim, sym, ap, ◌∙◌, arith}
 use Rattle.std.proofs.Math.Arith.{digits_lt}
 use Rattle.codec.specs.Codes.{every}

@@ -148,8 +148,10 @@ impl Plant for ActionPlant {
 
     ghost next = { λ p s m. action_next p.table s m };
 
+    // a move that is not allowed changes nothing
     ghost idle = { λ p s m e. next_idle p.table s m e };
 
+    // moves are below 4096, since there are at most 16 operators
     ghost numbered = { λ p s m e. let h = (allowed_parts p.table s m e).0 in omega (arith, p.table.few) };
 
     fn first_state(&self) -> Picture {

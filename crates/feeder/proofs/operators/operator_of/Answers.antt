@@ -1,4 +1,4 @@
-use Rattle.std.proofs.Common.{◌≡◌, ℕ, ◌+◌, ◌-◌, ◌≤◌, [], length, get_or, take, sym, ap, ◌∙◌, arith}
+use Rattle.std.proofs.Common.{◌≡◌, ℕ, ◌+◌, ◌-◌, [], length, get_or, take, sym, ap, ◌∙◌, arith}
 use Rattle.plants.specs.Operators.{operator_bytes}
 use Rattle.std.proofs.lemmas.List.{append-nil, length-take-le, take_rest}
 use Rattle.feeder.proofs.Shapes.{begins, length_operator, whole_operator}

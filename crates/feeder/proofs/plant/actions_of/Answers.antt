@@ -1,8 +1,7 @@
-use Rattle.std.proofs.Common.{◌≡◌, List, [], sym, refl, ap, ◌∙◌, subst}
+use Rattle.std.proofs.Common.{◌≡◌, [], sym, ◌∙◌, subst}
 use Rattle.model.specs.declared.vocabulary.Vocabulary.{Vocabulary}
 use Rattle.plants.proofs.Sound.{actions_sound}
 use Rattle.plants.specs.Actions.{SoundActions, operator_list}
-use Rattle.plants.specs.declared.operator.Operator.{Operator}
 use Rattle.plants.specs.Operators.{operator_bytes}
 use Rattle.std.proofs.lemmas.List.{append-nil}
 use Rattle.std.specs.List.{flat_map}

@@ -1,11 +1,11 @@
-use Rattle.std.proofs.Common.{◌≡◌, ℕ, ◌+◌, ◌*◌, ◌<◌, true, List, [], ◌∷◌, ◌++◌, length, get_or, take, drop, sym, refl, ap, ◌∙◌, subst, arith}
-use Rattle.codec.proofs.Coding.{count_known, spelled_all}
+use Rattle.std.proofs.Common.{◌≡◌, ℕ, ◌+◌, ◌*◌, ◌<◌, List, ◌++◌, length, get_or, sym, ap, ◌∙◌, subst, arith}
+use Rattle.codec.proofs.Coding.{spelled_all}
 use Rattle.model.proofs.Words.{word_made}
 use Rattle.model.specs.declared.vocabulary.Vocabulary.{Vocabulary}
 use Rattle.model.specs.Literals.{word_bytes}
 use Rattle.plants.proofs.Sound.{network_sound}
 use Rattle.plants.specs.declared.network.Switch.{Switch}
-use Rattle.plants.specs.Networks.{SoundNetwork, network_bytes, switch_list}
+use Rattle.plants.specs.Networks.{SoundNetwork, switch_list}
 use Rattle.plants.specs.Switches.{switch_bytes}
 use Rattle.std.specs.List.{flat_map}
 use Rattle.feeder.proofs.Known.{every_any, word_known}

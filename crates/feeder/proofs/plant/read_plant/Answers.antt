@@ -1,4 +1,4 @@
-use Rattle.std.proofs.Common.{◌≡◌, ℕ, List, drop, Some, None}
+use Rattle.std.proofs.Common.{drop, Some, None}
 use Rattle.feeder.specs.declared.refusal.ReadRefusal.TheVariants.{Plant}
 use Rattle.feeder.specs.Layouts.{plant_at, plant_size}
 use Rattle.feeder.specs.Tables.{plant_bytes}

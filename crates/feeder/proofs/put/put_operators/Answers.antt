@@ -1,7 +1,7 @@
-use Rattle.std.proofs.Common.{◌≡◌, ℕ, ◌+◌, ◌<◌, ◌≤◌, true, List, length, take, sym, refl, ap, ◌∙◌, add-zero, arith, length-append}
+use Rattle.std.proofs.Common.{◌≡◌, ℕ, ◌+◌, List, length, take, sym, ap, ◌∙◌, add-zero, arith, length-append}
 use Rattle.codec.proofs.Coding.{every_at, joined_front, joined_more}
 use Rattle.codec.proofs.Writes.{written_more, written_none}
-use Rattle.codec.specs.Codes.{every, written}
+use Rattle.codec.specs.Codes.{written}
 use Rattle.plants.specs.declared.operator.Operator.{Operator}
 use Rattle.plants.specs.Operators.{operator_bytes}
 use Rattle.std.proofs.lemmas.List.{take_all}

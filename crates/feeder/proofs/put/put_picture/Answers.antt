@@ -1,13 +1,11 @@
 use Rattle.std.proofs.Common.{◌≡◌, ℕ, ◌+◌, ◌-◌, List, length, take, ap, ◌∙◌, arith}
 use native.Mathlib.Nat.{sub-zero}
 use Rattle.codec.specs.Codes.{written}
-use Rattle.model.specs.declared.fact.Fact.{Fact}
 use Rattle.model.specs.declared.picture.FactList.{FactList}
 use Rattle.model.specs.Literals.{fact_bytes, word_bytes}
 use Rattle.model.specs.Ascents.{fact_numbers}
-use Rattle.model.specs.Pictures.{fact_list, members}
+use Rattle.model.specs.Pictures.{fact_list}
 use Rattle.std.specs.List.{flat_map}
-use Rattle.feeder.specs.Records.{picture_bytes}
 use Rattle.feeder.proofs.Known.{every_any, fact_codes}
 use Rattle.feeder.proofs.put.put_picture.Goals as goal
 

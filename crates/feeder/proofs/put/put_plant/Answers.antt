@@ -1,4 +1,4 @@
-use Rattle.std.proofs.Common.{◌≡◌, ℕ, ◌+◌, ◌-◌, ◌≤◌, true, List, ◌++◌, length, take, sym, refl, ap, ◌∙◌, arith, length-append}
+use Rattle.std.proofs.Common.{◌≡◌, ℕ, ◌+◌, ◌-◌, List, ◌++◌, length, take, sym, refl, ap, ◌∙◌, arith, length-append}
 use native.Mathlib.Nat.{sub-zero}
 use Rattle.codec.proofs.Writes.{length_written, written_more}
 use Rattle.codec.specs.Codes.{every, written}

@@ -1,4 +1,4 @@
-use Rattle.std.proofs.Common.{◌≡◌, Ok, Result, sym, subst}
+use Rattle.std.proofs.Common.{Ok, Result, sym, subst}
 use Rattle.feeder.specs.declared.record.Feeder.{Feeder}
 use Rattle.feeder.specs.declared.refusal.ReadRefusal.{ReadRefusal}
 use Rattle.feeder.specs.Verdicts.{Verdict}

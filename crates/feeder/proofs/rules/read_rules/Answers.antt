@@ -1,4 +1,4 @@
-use Rattle.std.proofs.Common.{◌≡◌, ℕ, List, Some, None}
+use Rattle.std.proofs.Common.{Some, None}
 use Rattle.feeder.specs.declared.refusal.ReadRefusal.TheVariants.{Rules}
 use Rattle.feeder.specs.Layouts.{rules_at, rules_size}
 use Rattle.feeder.specs.Tables.{rule_bytes}

@@ -1,4 +1,4 @@
-use Rattle.std.proofs.Common.{sym, arith}
+use Rattle.std.proofs.Common.{sym}
 use Rattle.codec.proofs.Passing.{one_failed, tried_all, tried_more}
 use Rattle.model.specs.Ascents.{blank_literal}
 use Rattle.std.proofs.lemmas.Bool.{le-ltb, lt-ltb}

@@ -1,8 +1,7 @@
-use Rattle.std.proofs.Common.{◌≡◌, ℕ, Bool, true, List, sym, refl, ap, ◌∙◌, subst, arith}
+use Rattle.std.proofs.Common.{◌≡◌, ℕ, true, sym, refl, ap, ◌∙◌, subst, arith}
 use Rattle.codec.proofs.Coding.{count_known}
 use Rattle.codec.specs.Codes.{every}
 use Rattle.model.proofs.Goals.{goal_sound}
-use Rattle.model.specs.declared.fact.Literal.{Literal}
 use Rattle.model.specs.Goals.{SoundGoal, goal_list}
 use Rattle.model.specs.Literals.{literal_bytes}
 use Rattle.model.specs.Vocabularies.{fact_total}

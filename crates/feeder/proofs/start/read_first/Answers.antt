@@ -1,6 +1,6 @@
-use Rattle.std.proofs.Common.{◌≡◌, ℕ, ◌*◌, List, Some, None, rules}
+use Rattle.std.proofs.Common.{◌*◌, Some, None, rules}
 use Rattle.feeder.specs.declared.refusal.ReadRefusal.TheVariants.{FirstFacts}
-use Rattle.feeder.specs.Layouts.{facts_at, goal_at}
+use Rattle.feeder.specs.Layouts.{facts_at}
 use Rattle.feeder.specs.Records.{picture_bytes}
 use Rattle.feeder.specs.Verdicts.{HasFirst, SuitFirst}
 use Rattle.feeder.proofs.Checks.{passed_more}

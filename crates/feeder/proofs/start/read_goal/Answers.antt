@@ -1,6 +1,6 @@
-use Rattle.std.proofs.Common.{◌≡◌, ℕ, ◌*◌, List, Some, None}
+use Rattle.std.proofs.Common.{◌*◌, Some, None}
 use Rattle.feeder.specs.declared.refusal.ReadRefusal.TheVariants.{Goal}
-use Rattle.feeder.specs.Layouts.{facts_at, goal_at}
+use Rattle.feeder.specs.Layouts.{goal_at}
 use Rattle.feeder.specs.Records.{goal_bytes}
 use Rattle.feeder.specs.Verdicts.{HasGoal, SuitGoal}
 use Rattle.feeder.proofs.Checks.{passed_more}

@@ -1,4 +1,4 @@
-use Rattle.std.proofs.Common.{◌≡◌, ℕ, ◌+◌, ◌*◌, ◌≤◌, List, length, take, ap, ◌∙◌, arith, length-append}
+use Rattle.std.proofs.Common.{List, length, take, ap, ◌∙◌, arith, length-append}
 use Rattle.codec.proofs.Coding.{joined_more}
 use Rattle.plants.specs.declared.operator.Operator.{Operator}
 use Rattle.plants.specs.Operators.{operator_bytes}

@@ -1,4 +1,4 @@
-use Rattle.std.proofs.Common.{◌≡◌, ℕ, ◌+◌, ◌*◌, ◌≤◌, length, sym, ap, ◌∙◌, arith, length-append}
+use Rattle.std.proofs.Common.{◌≡◌, ◌+◌, ◌*◌, length, sym, ap, ◌∙◌, arith, length-append}
 use Rattle.model.specs.Literals.{word_bytes}
 use Rattle.plants.specs.Networks.{switch_list}
 use Rattle.plants.specs.Switches.{switch_bytes}

@@ -1,4 +1,4 @@
-use Rattle.std.proofs.Common.{◌≡◌, ◌≤◌, ap, arith}
+use Rattle.std.proofs.Common.{ap, arith}
 use Rattle.model.proofs.Pictures.{members_few}
 use Rattle.feeder.specs.declared.header.Header.{Header}
 use Rattle.feeder.specs.Layouts.{rules_size}

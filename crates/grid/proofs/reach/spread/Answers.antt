@@ -1,4 +1,4 @@
-use Rattle.std.proofs.Common.{ℕ, Bool, ◌||◌, eqb, ltb, sym, ap, ◌∙◌, ⊎_elim, arith}
+use Rattle.std.proofs.Common.{Bool, ◌||◌, eqb, ltb, sym, ap, ◌∙◌, ⊎_elim, arith}
 use Rattle.model.specs.Pictures.{bit}
 use Rattle.std.proofs.lemmas.Bool.{and_from, lt-ltb, or_left, or_right}
 use Rattle.grid.specs.Paths.{switch_at}

@@ -1,6 +1,5 @@
-use Rattle.std.proofs.Common.{◌≡◌, ℕ, ◌+◌, ◌*◌, ◌<◌, ◌≤◌, List, [], ◌∷◌, ◌++◌, length, get_or, take, sym, refl, ap, ◌∙◌, arith}
+use Rattle.std.proofs.Common.{◌≡◌, ◌+◌, get_or, take, ap, ◌∙◌, arith}
 use Rattle.std.proofs.lemmas.List.{take_all, take_more}
-use Rattle.model.specs.declared.vocabulary.Arity.{Arity}
 use Rattle.model.specs.declared.vocabulary.Arity.TheVariants.{Zero}
 use Rattle.model.specs.Facts.{facts, facts_of}
 use Rattle.model.proofs.Counting.{facts_most, facts_push}

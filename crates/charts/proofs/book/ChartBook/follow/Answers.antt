@@ -1,5 +1,5 @@
 -- The lines that are left give the step: one that is not followed can be left out, and none left leaves the step.
-use Rattle.std.proofs.Common.{◌≡◌, ℕ, ◌+◌, ◌<◌, ◌≤◌, Bool, true, false, cond, eqb, List, length, get_or, take, drop, sym, ap, ◌∙◌, arith}
+use Rattle.std.proofs.Common.{◌≡◌, ℕ, ◌+◌, ◌<◌, true, false, cond, eqb, List, length, get_or, drop, sym, ap, ◌∙◌, arith}
 use Rattle.books.specs.Charts.{line_list}
 use Rattle.books.specs.declared.chart.Chart.{Chart}
 use Rattle.books.specs.declared.line.Line.{Line}

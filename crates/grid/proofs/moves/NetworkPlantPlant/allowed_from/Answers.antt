@@ -1,5 +1,5 @@
 -- Below a place no move is allowed: what is no multiple of sixteen never is, and the places before were tried.
-use Rattle.std.proofs.Common.{◌≡◌, ℕ, ◌*◌, ◌<◌, ◌≤◌, false, sym, ap, ◌∙◌, ⊎_elim, arith}
+use Rattle.std.proofs.Common.{◌*◌, ◌≤◌, sym, ap, ◌∙◌, ⊎_elim, arith}
 use Rattle.model.proofs.Moves.{lowest_here, lowest_none, lowest_skip}
 use Rattle.std.proofs.lemmas.Bool.{cases_eq, cases_lt}
 use Rattle.grid.specs.Actions.{network_allowed}

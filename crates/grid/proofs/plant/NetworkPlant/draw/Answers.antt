@@ -1,11 +1,11 @@
 -- What is packed is, fact by fact, what is defined to hold: a section is reached just where a path joins it to a fed one.
-use Rattle.std.proofs.Common.{◌≡◌, ℕ, ◌^◌, ◌<◌, ◌≤◌, Bool, ◌&&◌, ltb, sym, ap, ◌∙◌, subst, arith, pow_mono}
-use Rattle.model.specs.Drawn.{bits_below, bits_of}
+use Rattle.std.proofs.Common.{◌≡◌, ℕ, ◌^◌, ◌≤◌, Bool, ◌&&◌, ltb, sym, ap, ◌∙◌, subst, arith, pow_mono}
+use Rattle.model.specs.Drawn.{bits_below}
 use Rattle.model.specs.Pictures.{bit}
 use Rattle.model.proofs.Drawn.{bit_of_bits, drawn}
 use Rattle.std.proofs.lemmas.Bool.Decides.{same_from_decides}
 use Rattle.grid.specs.Paths.{is_joined}
-use Rattle.grid.specs.Shown.{Depicts, in_turn, is_live, network_shown, side_by_side}
+use Rattle.grid.specs.Shown.{Depicts, in_turn, is_live, network_shown}
 use Rattle.grid.specs.States.{closed_at, has_earth, is_closed}
 use Rattle.grid.proofs.Depicting.{in_turn_same, shown_law}
 use Rattle.grid.proofs.Paths.{joined_decided}

@@ -1,4 +1,4 @@
-use Rattle.std.proofs.Common.{◌≡◌, ℕ, ◌+◌}
+use Rattle.std.proofs.Common.{◌≡◌, ◌+◌}
 use Rattle.model.specs.Drawn.{bits_of}
 use Rattle.model.specs.Pictures.{holds}
 use Rattle.grid.proofs.plant.NetworkPlant.first_earths.Given as goal

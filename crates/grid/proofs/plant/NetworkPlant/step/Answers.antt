@@ -1,5 +1,5 @@
 use Rattle.std.proofs.Common.{◌≡◌, Some, None, sym, ap, ◌∙◌, subst}
-use Rattle.grid.specs.Actions.{acted, action_of, changes, network_allowed, network_next, some_changes}
+use Rattle.grid.specs.Actions.{action_of, network_allowed, network_next, some_changes}
 use Rattle.grid.specs.Laws.{Stepped}
 use Rattle.grid.proofs.Acting.{next_acted, next_law, next_same}
 use Rattle.grid.proofs.plant.NetworkPlant.step.Goals as goal

@@ -1,4 +1,4 @@
-use Rattle.std.proofs.Common.{◌≡◌, ℕ, ◌^◌, ◌≤◌, Bool, ◌&&◌, sym, ap, ◌∙◌, arith, pow_mono}
+use Rattle.std.proofs.Common.{ℕ, ◌^◌, ◌≤◌, Bool, ◌&&◌, sym, ap, ◌∙◌, arith, pow_mono}
 use mathlib.Core.Bool.{and_comm}
 use lib.Bits.{and_le_l, bit_and}
 use Rattle.model.specs.Drawn.{bits_below, bits_of}

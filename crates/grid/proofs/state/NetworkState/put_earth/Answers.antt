@@ -1,5 +1,5 @@
 -- What the set holds afterwards, section by section.
-use Rattle.std.proofs.Common.{◌≡◌, ℕ, Bool, true, false, cond, not, ◌&&◌, ◌||◌, eqb, sym, refl, ap, ◌∙◌}
+use Rattle.std.proofs.Common.{◌≡◌, Bool, true, false, cond, not, ◌&&◌, ◌||◌, eqb, sym, refl, ap, ◌∙◌}
 use Rattle.model.specs.Pictures.{bit}
 use Rattle.grid.specs.declared.sections.Sections.{Sections}
 use Rattle.grid.proofs.Same.{same_sections, same_state}

@@ -1,4 +1,4 @@
-use Rattle.std.proofs.Common.{◌≡◌, get_or, refl, ◌∙◌, arith}
+use Rattle.std.proofs.Common.{get_or, refl, ◌∙◌, arith}
 use Rattle.codec.proofs.Coding.{spelled_all}
 use Rattle.model.proofs.Words.{word_made}
 use Rattle.model.proofs.fact.FactCoded.decode.Goals as goal

@@ -1,4 +1,4 @@
-use Rattle.std.proofs.Common.{◌/◌, ◌%◌, Bool, not, ◌&&◌, get_or, refl, arith}
+use Rattle.std.proofs.Common.{◌/◌, ◌%◌, not, ◌&&◌, get_or, refl, arith}
 use Rattle.std.proofs.lemmas.Nat.{mod_below}
 use Rattle.model.specs.Pictures.{holds}
 use Rattle.model.proofs.Bits.{bit_cleared}

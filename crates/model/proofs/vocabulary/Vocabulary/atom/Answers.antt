@@ -1,10 +1,7 @@
-use Rattle.std.proofs.Common.{◌≡◌, ℕ, ◌+◌, ◌<◌, ◌≤◌, true, length, get_or, take, Some, Option, sym, refl, ap, ◌∙◌, arith}
+use Rattle.std.proofs.Common.{◌≡◌, ℕ, true, Some, Option, ap, ◌∙◌, arith}
 use Rattle.std.proofs.lemmas.Bool.{cond-true}
-use Rattle.model.specs.declared.fact.Fact.{Fact}
 use Rattle.model.specs.declared.term.Atom.{Atom}
 use Rattle.model.specs.declared.vocabulary.Arity.{Arity}
-use Rattle.model.specs.declared.vocabulary.Arity.TheVariants.{Zero}
-use Rattle.model.specs.Facts.{facts}
 use Rattle.model.specs.Numbering.{number_of}
 use Rattle.model.specs.Vocabularies.{atom_fits, terms_fit}
 use Rattle.model.proofs.Naming.{arity_there, facts_more, first_fact_is}

@@ -1,7 +1,6 @@
-use Rattle.std.proofs.Common.{◌≡◌, ℕ, ◌+◌, ◌-◌, ◌≤◌, true, get_or, take, Some, Option, sym, refl, ap, ◌∙◌, arith}
+use Rattle.std.proofs.Common.{◌≡◌, ℕ, ◌+◌, true, get_or, take, Some, sym, ap, ◌∙◌, arith}
 use native.Mathlib.Nat.{sub-zero}
 use Rattle.std.proofs.lemmas.Bool.{cond-true}
-use Rattle.model.specs.declared.fact.Fact.{Fact}
 use Rattle.model.specs.declared.vocabulary.Arity.TheVariants.{Zero}
 use Rattle.model.specs.Facts.{facts}
 use Rattle.model.specs.Numbering.{number_of, object_of, place}

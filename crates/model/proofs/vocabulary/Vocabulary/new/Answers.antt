@@ -1,4 +1,4 @@
-use Rattle.std.proofs.Common.{◌≡◌, ℕ, ◌≤◌, List, length, take, sym, refl, ap, ◌∙◌, subst, arith}
+use Rattle.std.proofs.Common.{◌≤◌, List, length, take, sym, refl, subst, arith}
 use Rattle.codec.proofs.Padded.{tabled}
 use Rattle.model.specs.declared.vocabulary.Arity.{Arity}
 use Rattle.model.specs.declared.vocabulary.Arity.TheVariants.{Zero}
