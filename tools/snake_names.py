@@ -6,7 +6,8 @@ usage: python3 tools/snake_names.py            at the top of the repository, onc
 A name is turned where it is defined in specs/ or proofs/ with a dash in it. Answers and invariants keep the names of their
 goals, which the check makes; lemmas that stand among the answers are turned in their own file. Strings, functions of src/,
 goals, and names of the library stay, and so do comments, but for names between backticks. It stops, and writes nothing,
-where two names would fall together, unless OTHER says what to write in place of one of them.
+where a name that is turned everywhere would fall together with another word, unless OTHER gives it another name or SHARED
+allows it.
 """
 
 import os
@@ -24,10 +25,9 @@ SHARED = {
 
 WORD = r"[^\W\d][\w']*(?:-[\w']+)*"
 DEFINED = re.compile(rf"^\s*(?:(?:abbrev|unfoldable|pub|data|record)\s+)*({WORD})\s+:(?=\s|$)")
-BINDERS = re.compile(rf"[({{]((?:{WORD}\s+)*{WORD})\s+:\s")
-ANSWERS = ("Answers.antt", "Invariants.antt", "Proof.antt")
+ANSWERS = ("Answers.antt", "Invariants.antt")
 ASKED = re.compile(r":\s*(?:goal|given|need)\.")
-# What is left as it is: a string, and in antt and in code a comment without its names between backticks.
+# Strings and the text of comments, which stay as they are, and names between backticks, which are turned in comments too.
 PIECES = re.compile(r'"(?:\\.|[^"\\\n])*"|`[^`\n]*`|--(?=\s)[^\n`]*|//[^\n`]*')
 
 
@@ -40,62 +40,46 @@ def files(root):
 
 
 def defined(text):
-    """The names with a dash that a file defines or binds."""
+    """The names with a dash that a file defines."""
     found = set()
     for line in text.splitlines():
         m = DEFINED.match(line)
         if m and not ASKED.search(line):
             found.add(m.group(1))
-        for m in BINDERS.finditer(line):
-            found.update(m.group(1).split())
     return {n for n in found if "-" in n}
 
 
-def turned(text, names):
-    """The text with each of these names turned, outside strings and comments."""
-
-    def word(m):
-        return names.get(m.group(0), m.group(0))
+def line_turned(line, names):
+    """The line with each of these names turned, outside strings and comments."""
 
     def outside(part):
-        return re.sub(WORD, word, part)
+        return re.sub(WORD, lambda m: names.get(m.group(0), m.group(0)), part)
 
-    def comment_or_string(m):
-        s = m.group(0)
-        if s.startswith("`"):
-            return outside(s)
-        return s
-
-    out, at, in_comment = [], 0, False
-    for line in text.splitlines(keepends=True):
-        out.append(line_turned(line, outside, comment_or_string))
-    return "".join(out)
-
-
-def line_turned(line, outside, keep):
     out, at, commented = [], 0, False
     for m in PIECES.finditer(line):
-        between = line[at:m.start()]
+        between, piece = line[at:m.start()], m.group(0)
         out.append(between if commented else outside(between))
-        out.append(keep(m))
-        commented = commented or m.group(0).startswith(("--", "//"))
+        out.append(outside(piece) if piece.startswith("`") else piece)
+        commented = commented or piece.startswith(("--", "//"))
         at = m.end()
     rest = line[at:]
     out.append(rest if commented else outside(rest))
     return "".join(out)
 
 
+def turned(text, names):
+    return "".join(line_turned(line, names) for line in text.splitlines(keepends=True))
+
+
 def main():
-    root = os.getcwd()
     texts = {}
-    for path in files(root):
+    for path in files(os.getcwd()):
         with open(path, encoding="utf-8") as f:
             texts[path] = f.read()
-    everywhere = {}
-    own = {}
+    everywhere, own = {}, {}
     for path, text in texts.items():
         names = {n: OTHER.get(n, n.replace("-", "_")) for n in defined(text)}
-        if os.path.basename(path) in ANSWERS or path.endswith(".rt"):
+        if os.path.basename(path) in ANSWERS:
             own[path] = names
         else:
             everywhere.update(names)
@@ -113,7 +97,7 @@ def main():
             with open(path, "w", encoding="utf-8") as f:
                 f.write(after)
             changed += 1
-    print(f"{len(everywhere)} names turned, in {changed} files")
+    print(f"{len(everywhere)} names turned everywhere, in {changed} files")
     return 0
 
 

@@ -185,24 +185,24 @@ unfolding encode
 whole_of bytes f e =
     let h = header_of f in
     let v = plant_words f.plant in
-    let goal-on = goal_bytes f.goal ++ rule_bytes f.rules in
-    let first_on = picture_bytes f.first ++ goal-on in
-    let plant-on = plant_bytes f.plant ++ first_on in
-    let a = next_part 0 11 11 bytes (header_bytes h) (arity_bytes v ++ plant-on) e refl refl in
-    let b = next_part 11 h.predicates (plant_at h) bytes (arity_bytes v) plant-on a.1 (words_long v) refl in
+    let goal_on = goal_bytes f.goal ++ rule_bytes f.rules in
+    let first_on = picture_bytes f.first ++ goal_on in
+    let plant_on = plant_bytes f.plant ++ first_on in
+    let a = next_part 0 11 11 bytes (header_bytes h) (arity_bytes v ++ plant_on) e refl refl in
+    let b = next_part 11 h.predicates (plant_at h) bytes (arity_bytes v) plant_on a.1 (words_long v) refl in
     let size : length (plant_bytes f.plant) ≡ plant_size h.plant h.rows (drop (plant_at h) bytes) =
     sym (plant_long f.plant first_on) ∙ ap (plant_size h.plant h.rows) (sym b.1)
     in
     let c = next_part (plant_at h) _ (facts_at h bytes) bytes (plant_bytes f.plant) first_on b.1 size refl in
-    let d = next_part (facts_at h bytes) (2 * h.first) (goal_at h bytes) bytes (picture_bytes f.first) goal-on c.1 (first_long f.first) refl in
+    let d = next_part (facts_at h bytes) (2 * h.first) (goal_at h bytes) bytes (picture_bytes f.first) goal_on c.1 (first_long f.first) refl in
     let g = next_part (goal_at h bytes) (3 * h.goal) (rules_at h bytes) bytes (goal_bytes f.goal) (rule_bytes f.rules) d.1 (goal_long f.goal) refl in
     let total : length bytes ≡ called_for h bytes =
     omega (
       arith,
       ap length e,
-      length-append (arity_bytes v) plant-on,
+      length-append (arity_bytes v) plant_on,
       length-append (plant_bytes f.plant) first_on,
-      length-append (picture_bytes f.first) goal-on,
+      length-append (picture_bytes f.first) goal_on,
       length-append (goal_bytes f.goal) (rule_bytes f.rules),
       words_long v,
       size,

@@ -62,10 +62,10 @@ module _ (w : Network) (s : NetworkState) where
   spread_both a before after e t m b =
       let from = (switch_at w a).from in
       let to = (switch_at w a).to in
-      let has-from : bit after.bits from ≡ true =
+      let has_from : bit after.bits from ≡ true =
       b from ∙ or_right (eqb from to) (eqb from from || bit before.bits from) (or_left (eqb from from) (bit before.bits from) (eq-eqb from from refl))
       in
-      let has-to : bit after.bits to ≡ true = b to ∙ or_left (eqb to to) (eqb to from || bit before.bits to) (eq-eqb to to refl) in
+      let has_to : bit after.bits to ≡ true = b to ∙ or_left (eqb to to) (eqb to from || bit before.bits to) (eq-eqb to to refl) in
       record {
         keeps = λ x k. b x ∙ or_right (eqb x to) (eqb x from || bit before.bits x) (or_right (eqb x from) (bit before.bits x) k);
         more = m;
@@ -78,7 +78,7 @@ module _ (w : Network) (s : NetworkState) where
             (λ p. j x p)
             (or_cases (eqb x from) (bit before.bits x) q))
             (or_cases (eqb x to) (eqb x from || bit before.bits x) (sym (b x) ∙ k));
-        done = λ _ _. has-from ∙ sym has-to;
+        done = λ _ _. has_from ∙ sym has_to;
       }
 
   pub grown_none : (r : Sections) → Grown w s r r

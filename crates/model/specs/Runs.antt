@@ -1,4 +1,4 @@
--- Runs: lists of pictures, none of them empty, whose last picture goes on for ever, and what a label takes in.
+-- Runs: lists of one picture or more, the last of which goes on for ever, and what a label takes in.
 use Rattle.std.specs.Prelude.{ℕ, zero, suc, List, [], ◌∷◌}
 use Rattle.model.specs.declared.picture.Picture.{Picture}
 

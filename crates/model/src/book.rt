@@ -4,7 +4,7 @@ ghost use Rattle.model.specs.declared.picture.Picture.{Picture};
 
 use crate::picture::Picture;
 
-// A rule book: rules over time, as a monitor. A run is a list of pictures, not empty, whose last picture goes on for ever.
+// A rule book: rules over time, as a monitor. A run is a list of one picture or more, the last of which goes on for ever.
 // A label says what is left of the rules after the pictures taken in so far, and permits certain runs. The ghost members
 // are the book's meaning; every implementation defines them by its own tables, and the contracts of the four questions
 // say that the answers are those defined. No question is refused, and none changes anything.
