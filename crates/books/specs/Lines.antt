@@ -1,6 +1,6 @@
 -- Lines of a chart: their bytes in a record, and what they keep to.
 use Rattle.std.specs.Prelude.{◌≡◌, ℕ, ◌≤◌, Bool, true, ◌&&◌, List, [], ◌∷◌, ◌++◌, length, nat_le, nat_lt}
-use Rattle.codec.specs.Codes.{every}
+use Rattle.std.specs.List.{list_all}
 use Rattle.model.specs.declared.fact.Sign.TheVariants.{Negative}
 use Rattle.model.specs.declared.vocabulary.Vocabulary.{Vocabulary}
 use Rattle.model.specs.Literals.{literal_bytes}
@@ -22,4 +22,4 @@ line_fits facts l = nat_le l.from 15 && (nat_le l.to 16 && nat_lt l.literal.fact
 -- what the lines of a chart over a vocabulary keep to
 pub record SoundChart (v : Vocabulary) (lines : List Line) : Type 0 where
   pub few : length lines ≤ 120
-  pub fits : every (line_fits (fact_total v)) lines ≡ true
+  pub fits : list_all (line_fits (fact_total v)) lines ≡ true

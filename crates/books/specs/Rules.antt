@@ -1,5 +1,5 @@
 -- Rules: what a list of nodes keeps to in order to be a formula. Its last node is the whole formula.
-use Rattle.std.specs.Prelude.{◌≡◌, ℕ, ◌+◌, ◌-◌, ◌<◌, ◌≤◌, max, Bool, true, false, cond, ◌&&◌, List, [], ◌∷◌, length, Some, None, Option, ◌==◌, nat_lt, slice_index}
+use Rattle.std.specs.Prelude.{◌≡◌, ℕ, ◌+◌, ◌-◌, ◌<◌, ◌≤◌, max, Bool, true, false, ◌&&◌, List, [], ◌∷◌, length, sum_by, count_by, Some, None, Option, ◌==◌, nat_lt, slice_index}
 use Rattle.model.specs.declared.vocabulary.Vocabulary.{Vocabulary}
 use Rattle.model.specs.Vocabularies.{atom_fits, term_fits}
 use Rattle.books.specs.declared.node.Node.{Node}
@@ -19,17 +19,20 @@ Lower nodes = (i : ℕ) → i < length nodes → high (parts (node_at nodes i)) 
 
 -- how often a number stands in a list
 abbrev pub times : ℕ → List ℕ → ℕ
-times j [] = 0
-times j (n ∷ ns) = cond (n == j) 1 0 + times j ns
+times j ns = count_by (λ n. n == j) ns
 
 -- how often node j is a part of some nodes
 abbrev pub uses : ℕ → List Node → ℕ
-uses j [] = 0
-uses j (n ∷ nodes) = times j (parts n) + uses j nodes
+uses j nodes = sum_by (λ n. times j (parts n)) nodes
 
 -- every node except the last is a part of one node, and only once
 abbrev pub Once : List Node → Type 0
 Once nodes = (j : ℕ) → j + 1 < length nodes → uses j nodes ≡ 1
+
+-- what counting the parts of node i answers: one use more of each, or none where some part's number is not below i
+abbrev pub PartsUsed : Node → ℕ → List ℕ → List ℕ → Option (Unit {0}) → Type 0
+PartsUsed n i before after (Some _) = (high (parts n) ≤ i) × ((j : ℕ) → j < 120 → slice_index after j ≡ slice_index before j + times j (parts n))
+PartsUsed n i before after None = i < high (parts n)
 
 -- what counting uses answers: how often each node is a part, or none where some part's number is not lower
 abbrev pub UsesCounted : List Node → Option (List ℕ) → Type 0
@@ -95,8 +98,3 @@ pub record SoundFormula (v : Vocabulary) (nodes : List Node) : Type 0 where
   pub fits : Fits v nodes
   pub closed : Closed (whole_formula nodes)
   pub bound : bound_once (whole_formula nodes) ≡ true
-
--- what a test tells of a statement
-abbrev pub Tells : Bool → Type 0 → Type 0
-Tells true P = P
-Tells false P = P → ⊥

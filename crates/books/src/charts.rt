@@ -1,11 +1,11 @@
 ghost use Rattle.std.specs.Prelude.{◌≡◌};
-ghost use Rattle.codec.specs.Codes.{every};
+ghost use Rattle.std.specs.List.{list_all};
 ghost use Rattle.books.specs.Charts.{ChartMade};
 ghost use Rattle.books.specs.Lines.{line_fits};
 
 use crate::chart::Chart;
 use crate::line::Line;
-use codec::table::padded;
+use codec::table::Table;
 use model::vocabulary::Vocabulary;
 
 impl Chart {
@@ -13,30 +13,20 @@ impl Chart {
     pub fn new(vocabulary: Vocabulary, lines: &[Line]) -> Option<Chart>
         ensures { ChartMade vocabulary lines.now result }
     {
-        let count = lines.len();
-        if count > 120 {
-            return None;
-        }
+        let table = Table::new(lines)?;
         if !lines_fit(lines, vocabulary.facts()) {
             return None;
         }
-        let places = padded::<Line, 120>(Line::BLANK, lines);
         Some(Chart {
             vocabulary,
-            count: count as u8,
-            lines: places,
+            lines: table,
         })
     }
 }
 
 // Whether every line fits.
 fn lines_fit(lines: &[Line], facts: u16) -> bool
-    ensures { result ≡ every (line_fits facts) lines.now }
+    ensures { result ≡ list_all (line_fits facts) lines.now }
 {
-    for line in lines {
-        if !line.fits(facts) {
-            return false;
-        }
-    }
-    true
+    lines.iter().all(|line| line.fits(facts))
 }

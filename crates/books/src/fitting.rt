@@ -1,69 +1,52 @@
-ghost use Rattle.std.specs.Prelude.{◌≡◌};
-ghost use Rattle.books.specs.Rules.{Fits, Tells, node_fits, quantifier_fits, ranges};
-ghost use Rattle.books.specs.Trees.{is_variable, mentions};
+ghost use Rattle.std.specs.Prelude.{◌≡◌, ◌↔◌, IsTrue};
+ghost use Rattle.books.specs.Rules.{Fits, node_fits, quantifier_fits, ranges};
+ghost use Rattle.books.specs.Trees.{mentions};
 
 use crate::node::{Node, Quantifier};
 use model::term::{Atom, Term};
 use model::vocabulary::Vocabulary;
 
-// Whether a term is the variable x.
-fn is_variable(term: Term, x: u8) -> bool
-    ensures { result ≡ is_variable x term }
-{
-    match term {
-        Term::Object(_) => false,
-        Term::Variable(v) => v == x,
-    }
-}
-
 // Whether an atom mentions the variable x.
 fn mentions_variable(atom: Atom, x: u8) -> bool
     ensures { result ≡ mentions x atom }
 {
-    is_variable(atom.first, x) || is_variable(atom.second, x)
+    [atom.first, atom.second].contains(&Term::Variable(x))
 }
 
-// Whether a node can be the range of a quantifier of the variable x.
-fn can_range(node: Node, x: u8) -> bool
-    ensures { result ≡ ranges x node }
-{
-    match node {
-        Node::Atom(a) | Node::Goal(a) => mentions_variable(a, x),
-        _ => false,
+impl Quantifier {
+    // Whether it binds one of the four variables, over a range among some nodes that mentions it.
+    fn fits(self, nodes: &[Node]) -> bool
+        ensures { result ≡ quantifier_fits nodes.now self }
+    {
+        let range = nodes.get(usize::from(self.range));
+        self.variable < 4 && range.is_some_and(|node| node.can_range(self.variable))
     }
 }
 
-// Whether a quantifier among some nodes binds one of the four variables, over a range that mentions it.
-fn fits_quantifier(nodes: &[Node], q: Quantifier) -> bool
-    ensures { result ≡ quantifier_fits nodes.now q }
-{
-    let i = q.range as usize;
-    if i >= nodes.len() {
-        return false;
+impl Node {
+    // Whether it can be the range of a quantifier of the variable x.
+    fn can_range(self, x: u8) -> bool
+        ensures { result ≡ ranges x self }
+    {
+        matches!(self, Node::Atom(a) | Node::Goal(a) if mentions_variable(a, x))
     }
-    q.variable < 4 && can_range(nodes[i], q.variable)
-}
 
-// Whether a node among some nodes speaks only of what the vocabulary has, and of the four variables.
-fn fits_node(vocabulary: &Vocabulary, nodes: &[Node], node: Node) -> bool
-    ensures { result ≡ node_fits vocabulary.now nodes.now node }
-{
-    match node {
-        Node::Atom(a) | Node::Goal(a) => vocabulary.has(4, a),
-        Node::Same(s, t) => s.fits(vocabulary.objects, 4) && t.fits(vocabulary.objects, 4),
-        Node::ForAll(q) | Node::Exists(q) => fits_quantifier(nodes, q),
-        _ => true,
+    // Whether it speaks only of what the vocabulary has, and of the four variables. Its parts are among some nodes.
+    fn fits(self, vocabulary: &Vocabulary, nodes: &[Node]) -> bool
+        ensures { result ≡ node_fits vocabulary.now nodes.now self }
+    {
+        match self {
+            Node::Atom(a) | Node::Goal(a) => vocabulary.has(4, a),
+            Node::Same(s, t) => s.fits(vocabulary.objects, 4) && t.fits(vocabulary.objects, 4),
+            Node::ForAll(q) | Node::Exists(q) => q.fits(nodes),
+            _ => true,
+        }
     }
 }
 
 // Whether every node fits.
 pub(crate) fn all_fit(vocabulary: &Vocabulary, nodes: &[Node]) -> bool
-    ensures { Tells result (Fits vocabulary.now nodes.now) }
+    ensures { IsTrue result ↔ Fits vocabulary.now nodes.now }
 {
-    for i in 0..nodes.len() {
-        if !fits_node(vocabulary, nodes, nodes[i]) {
-            return false;
-        }
-    }
-    true
+    nodes.iter().all(|node| node.fits(vocabulary, nodes))
 }

@@ -1,10 +1,9 @@
-ghost use Rattle.std.specs.Prelude.{◌≡◌, ◌≤◌, true, length, take};
-ghost use Rattle.codec.specs.Codes.{Unused};
-ghost use Rattle.books.specs.declared.node.Node.TheVariants.{True};
+ghost use Rattle.std.specs.Prelude.{◌≡◌, ◌≤◌, true, length};
 ghost use Rattle.books.specs.Rules.{Closed, Fits, Lower, Once, whole_formula};
 ghost use Rattle.books.specs.Trees.{bound_once};
 
 use crate::node::Node;
+use codec::table::Table;
 use model::vocabulary::Vocabulary;
 
 // A formula over a vocabulary: 1 to 120 nodes, the last of which is the whole formula.
@@ -13,15 +12,13 @@ use model::vocabulary::Vocabulary;
 #[derive(Clone, Copy)]
 pub struct FormulaTable {
     pub vocabulary: Vocabulary,
-    pub count: u8,
-    pub nodes: [Node; 120],
-    ghost some: { 1 ≤ count },
-    ghost few: { count ≤ 120 },
-    ghost places: { length nodes ≡ 120 },
-    ghost unused: { Unused True nodes count },
-    ghost lower: { Lower (take count nodes) },
-    ghost once: { Once (take count nodes) },
-    ghost fits: { Fits vocabulary (take count nodes) },
-    ghost closed: { Closed (whole_formula (take count nodes)) },
-    ghost bound: { bound_once (whole_formula (take count nodes)) ≡ true },
+    pub nodes: Table<Node, 120>,
+    ghost some: { 1 ≤ length nodes },
+    // the table's own limit once more, since contracts see of a table only the list of its values
+    ghost few: { length nodes ≤ 120 },
+    ghost lower: { Lower nodes },
+    ghost once: { Once nodes },
+    ghost fits: { Fits vocabulary nodes },
+    ghost closed: { Closed (whole_formula nodes) },
+    ghost bound: { bound_once (whole_formula nodes) ≡ true },
 }

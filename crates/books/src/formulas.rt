@@ -5,7 +5,7 @@ use crate::formula::FormulaTable;
 use crate::node::Node;
 use crate::scope::scope_of;
 use crate::uses::is_tree;
-use codec::table::padded;
+use codec::table::Table;
 use model::vocabulary::Vocabulary;
 
 impl FormulaTable {
@@ -13,39 +13,25 @@ impl FormulaTable {
     pub fn new(vocabulary: Vocabulary, nodes: &[Node]) -> Option<FormulaTable>
         ensures { FormulaMade vocabulary nodes.now result }
     {
-        let count = nodes.len();
-        if count == 0 || count > 120 {
+        let table = Table::new(nodes)?;
+        if nodes.is_empty() || !is_tree(nodes) || !all_fit(&vocabulary, nodes) {
             return None;
         }
-        if !is_tree(nodes) {
-            return None;
-        }
-        if !all_fit(&vocabulary, nodes) {
-            return None;
-        }
-        let scope = scope_of(nodes, count as u8 - 1);
-        if !scope.sound {
-            return None;
-        }
+        let scope = scope_of(nodes, nodes.len() as u8 - 1)?;
         if !scope.free.is_empty() {
             return None;
         }
-        let places = padded::<Node, 120>(Node::True, nodes);
         Some(FormulaTable {
             vocabulary,
-            count: count as u8,
-            nodes: places,
+            nodes: table,
         })
     }
 
     // Node i. None where the table has fewer nodes.
+    #[tactic(auto, using(crate::proofs::Trees::formula_step))]
     pub fn node(&self, i: u8) -> Option<Node>
         ensures { NodeAsked self.now i result }
     {
-        if i < self.count {
-            Some(self.nodes[i as usize])
-        } else {
-            None
-        }
+        self.nodes.as_slice().get(usize::from(i)).copied()
     }
 }

@@ -1,74 +1,62 @@
 ghost use Rattle.std.specs.Prelude.{◌≡◌, true};
-ghost use Rattle.books.specs.Lines.{line_bytes, line_fits};
+ghost use Rattle.books.specs.Lines.{blank_line, line_bytes, line_fits};
 ghost use Rattle.std.proofs.Common.{rules};
 
+use codec::blank::Blank;
 use codec::coded::Coded;
-use model::fact::{Fact, Literal, Sign};
+use model::fact::Literal;
 
-// How many bytes a line has in a record.
-const WIDTH: usize = 5;
+// The number of the broken step, where the rules are broken. A line may lead to it, but none leaves it.
+// It is no kind of its own, since a line of a record names it so.
+pub const BROKEN: u8 = 16;
 
 // One line of a chart: at one step, a picture in which the literal holds leads to another step.
-// Steps are 0 to 15; a line may also lead to step 16, where the rules are broken.
-#[derive(Clone, Copy)]
+// Steps are 0 to 15; a line may also lead to the broken step, 16.
+#[derive(Debug, Clone, Copy, Default, PartialEq, Eq)]
 pub struct Line {
+    // the two steps by their numbers, as a record has them: any byte may come, and `fits` says which are steps
     pub from: u8,
     pub literal: Literal,
     pub to: u8,
 }
 
 impl Line {
-    // What stands in a place that is not in use.
-    pub const BLANK: Line = Line {
-        from: 0,
-        literal: Literal {
-            sign: Sign::Negative,
-            fact: Fact { number: 0 },
-        },
-        to: 0,
-    };
-
     // Whether its steps are steps of a chart, and its fact is one of so many.
     pub(crate) fn fits(self, facts: u16) -> bool
         ensures { result ≡ line_fits facts self }
     {
-        self.from <= 15 && self.to <= 16 && self.literal.fact.number < facts
+        self.from <= 15 && self.to <= BROKEN && self.literal.fact.number < facts
     }
 }
 
-impl Coded for Line {
+impl Blank for Line {
+    ghost blank = { blank_line };
+
+    ghost only = { Prim.search rules };
+}
+
+impl Coded<5> for Line {
     ghost code = { line_bytes };
 
     ghost proper = { λ _. true };
 
-    ghost size = { 5 };
+    ghost narrow = { Prim.search rules };
 
     ghost fixed = { Prim.search rules };
 
     ghost one = { Prim.search rules };
 
-    fn width() -> usize {
-        WIDTH
-    }
-
-    fn decode(bytes: &[u8]) -> Option<Line> {
-        if bytes.len() != WIDTH {
-            return None;
-        }
-        let literal = <Literal as Coded>::decode(&bytes[1..4])?;
+    fn decode(bytes: &[u8; 5]) -> Option<Line> {
+        let [from, sign, high, low, to] = *bytes;
         Some(Line {
-            from: bytes[0],
-            literal,
-            to: bytes[4],
+            from,
+            literal: Literal::decode(&[sign, high, low])?,
+            to,
         })
     }
 
-    fn byte(&self, k: usize) -> u8 {
-        match k {
-            0 => self.from,
-            1..=3 => self.literal.byte(k - 1),
-            4 => self.to,
-            _ => 0,
-        }
+    fn encode(&self) -> [u8; 5] {
+        let [sign, high, low]: [u8; 3] = self.literal.encode();
+        [self.from, sign, high, low, self.to]
     }
 }

@@ -1,42 +1,26 @@
-ghost use Rattle.std.specs.Prelude.{◌≡◌, true, [], ◌∷◌, Some, None, ◌≢◌};
-ghost use Rattle.codec.specs.Codes.{Decoded};
-ghost use Rattle.books.specs.Nodes.{node_bytes, node_proper, quantifier_bytes, quantifier_proper};
+ghost use Rattle.std.specs.Prelude.{◌≡◌};
+ghost use Rattle.std.specs.List.{filter_map};
+ghost use Rattle.books.specs.declared.node.Node.TheVariants.{True};
+ghost use Rattle.books.specs.Nodes.{node_bytes, node_proper, parts};
 ghost use Rattle.std.proofs.Common.{rules};
 
+use codec::blank::Blank;
 use codec::coded::Coded;
 use model::term::{Atom, Term};
 
-// How many bytes a node has in a record.
-const WIDTH: usize = 4;
-
 // What a quantifier has: the atom that its variable ranges over, the body, and the variable.
-#[derive(Clone, Copy)]
+#[derive(Debug, Clone, Copy, PartialEq, Eq)]
 pub struct Quantifier {
     pub range: u8,
     pub body: u8,
     pub variable: u8,
 }
 
-impl Quantifier {
-    // The quantifier that has these bytes.
-    fn from_bytes(range: u8, body: u8, variable: u8) -> Option<Quantifier>
-        ensures { Decoded quantifier_bytes quantifier_proper (range ∷ (body ∷ (variable ∷ []))) result }
-    {
-        if variable > 3 {
-            return None;
-        }
-        Some(Quantifier {
-            range,
-            body,
-            variable,
-        })
-    }
-}
-
-// One node of a formula. Its parts are other nodes of the same table, by their numbers.
+// One node of a formula. Its parts are nodes of the same table, by number: boxes need a heap, which a panel lacks.
 // A goal is an atom that is asked of the goal instead of the picture.
-#[derive(Clone, Copy)]
+#[derive(Debug, Clone, Copy, Default, PartialEq, Eq)]
 pub enum Node {
+    #[default]
     True,
     False,
     Atom(Atom),
@@ -54,50 +38,82 @@ pub enum Node {
 }
 
 impl Node {
-    // The node that has these bytes, if there is one.
-    fn from_bytes(kind: u8, a: u8, b: u8, c: u8) -> Option<Node>
-        ensures { Decoded node_bytes node_proper (kind ∷ (a ∷ (b ∷ (c ∷ [])))) result }
+    // The numbers of its parts.
+    pub(crate) fn parts(self) -> [Option<u8>; 2]
+        ensures { filter_map (λ part. part) result ≡ parts self }
     {
-        match kind {
-            0 => Node::True.if_zero(a, b, c),
-            1 => Node::False.if_zero(a, b, c),
-            2 => Some(Node::Atom(<Atom as Coded>::decode(&[a, b, c])?)),
-            3 => Some(Node::Goal(<Atom as Coded>::decode(&[a, b, c])?)),
-            4 => Node::Same(Term::from_byte(b)?, Term::from_byte(c)?).if_zero(a, 0, 0),
-            5 => Node::Not(a).if_zero(0, b, c),
-            6 => Node::And(a, b).if_zero(0, 0, c),
-            7 => Node::Or(a, b).if_zero(0, 0, c),
-            8 => Node::Next(a).if_zero(0, b, c),
-            9 => Node::Eventually(a).if_zero(0, b, c),
-            10 => Node::Always(a).if_zero(0, b, c),
-            11 => Node::Until(a, b).if_zero(0, 0, c),
-            12 => Some(Node::ForAll(Quantifier::from_bytes(a, b, c)?)),
-            13 => Some(Node::Exists(Quantifier::from_bytes(a, b, c)?)),
+        match self {
+            Node::Not(a) | Node::Next(a) | Node::Eventually(a) | Node::Always(a) => [Some(a), None],
+            Node::And(a, b) | Node::Or(a, b) | Node::Until(a, b) => [Some(a), Some(b)],
+            Node::ForAll(q) | Node::Exists(q) => [Some(q.range), Some(q.body)],
+            _ => [None, None],
+        }
+    }
+}
+
+impl Blank for Node {
+    ghost blank = { True };
+
+    ghost only = { Prim.search rules };
+}
+
+// Its bytes are its kind, then its atom, terms, parts or variable, then zeros.
+impl Coded<4> for Node {
+    ghost code = { node_bytes };
+
+    ghost proper = { node_proper };
+
+    ghost narrow = { Prim.search rules };
+
+    ghost fixed = { Prim.search rules };
+
+    ghost one = { Prim.search rules };
+
+    fn decode(bytes: &[u8; 4]) -> Option<Node> {
+        match *bytes {
+            [0, 0, 0, 0] => Some(Node::True),
+            [1, 0, 0, 0] => Some(Node::False),
+            [2, p, s, t] => Some(Node::Atom(Atom::decode(&[p, s, t])?)),
+            [3, p, s, t] => Some(Node::Goal(Atom::decode(&[p, s, t])?)),
+            [4, 0, s, t] => Some(Node::Same(Term::decode(&[s])?, Term::decode(&[t])?)),
+            [5, a, 0, 0] => Some(Node::Not(a)),
+            [6, a, b, 0] => Some(Node::And(a, b)),
+            [7, a, b, 0] => Some(Node::Or(a, b)),
+            [8, a, 0, 0] => Some(Node::Next(a)),
+            [9, a, 0, 0] => Some(Node::Eventually(a)),
+            [10, a, 0, 0] => Some(Node::Always(a)),
+            [11, a, b, 0] => Some(Node::Until(a, b)),
+            [12, range, body, variable @ 0..=3] => Some(Node::ForAll(Quantifier {
+                range,
+                body,
+                variable,
+            })),
+            [13, range, body, variable @ 0..=3] => Some(Node::Exists(Quantifier {
+                range,
+                body,
+                variable,
+            })),
             _ => None,
         }
     }
 
-    // The node, if the bytes given are 0. They are those that its kind does not use, with 0 in place of one that it uses.
-    fn if_zero(self, a: u8, b: u8, c: u8) -> Option<Node>
-        ensures { elim result [ Some n ↦ (n ≡ self) × (a ≡ 0) × (b ≡ 0) × (c ≡ 0) | None ↦ (a ≡ 0 → b ≡ 0 → c ≢ 0) ] }
-    {
-        if a == 0 && b == 0 && c == 0 {
-            Some(self)
-        } else {
-            None
-        }
-    }
-
-    // Its bytes: its kind, then its atom, terms, parts or variable, then zeros.
-    fn bytes(self) -> [u8; WIDTH]
-        ensures { node_proper self ≡ true → result ≡ node_bytes self }
-    {
-        match self {
+    fn encode(&self) -> [u8; 4] {
+        match *self {
             Node::True => [0, 0, 0, 0],
             Node::False => [1, 0, 0, 0],
-            Node::Atom(a) => [2, a.predicate, a.first.to_byte(), a.second.to_byte()],
-            Node::Goal(a) => [3, a.predicate, a.first.to_byte(), a.second.to_byte()],
-            Node::Same(s, t) => [4, 0, s.to_byte(), t.to_byte()],
+            Node::Atom(a) => {
+                let [p, s, t]: [u8; 3] = a.encode();
+                [2, p, s, t]
+            }
+            Node::Goal(a) => {
+                let [p, s, t]: [u8; 3] = a.encode();
+                [3, p, s, t]
+            }
+            Node::Same(s, t) => {
+                let [s]: [u8; 1] = s.encode();
+                let [t]: [u8; 1] = t.encode();
+                [4, 0, s, t]
+            }
             Node::Not(a) => [5, a, 0, 0],
             Node::And(a, b) => [6, a, b, 0],
             Node::Or(a, b) => [7, a, b, 0],
@@ -108,32 +124,5 @@ impl Node {
             Node::ForAll(q) => [12, q.range, q.body, q.variable],
             Node::Exists(q) => [13, q.range, q.body, q.variable],
         }
-    }
-}
-
-impl Coded for Node {
-    ghost code = { node_bytes };
-
-    ghost proper = { node_proper };
-
-    ghost size = { 4 };
-
-    ghost fixed = { Prim.search rules };
-
-    ghost one = { Prim.search rules };
-
-    fn width() -> usize {
-        WIDTH
-    }
-
-    fn decode(bytes: &[u8]) -> Option<Node> {
-        if bytes.len() != WIDTH {
-            return None;
-        }
-        Node::from_bytes(bytes[0], bytes[1], bytes[2], bytes[3])
-    }
-
-    fn byte(&self, k: usize) -> u8 {
-        if k < WIDTH { self.bytes()[k] } else { 0 }
     }
 }

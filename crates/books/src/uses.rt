@@ -1,67 +1,51 @@
-ghost use Rattle.std.specs.Prelude.{◌≡◌, ℕ, ◌+◌, ◌*◌, ◌<◌, ◌≤◌, true, [], ◌∷◌, length, slice_index};
-ghost use Rattle.books.specs.Nodes.{parts};
-ghost use Rattle.books.specs.Rules.{Lower, Once, Tells, UsesCounted, high, times};
+ghost use Rattle.std.specs.Prelude.{◌≡◌, ℕ, ◌*◌, ◌<◌, ◌≤◌, ◌↔◌, IsTrue, length, slice_index};
+ghost use Rattle.books.specs.Rules.{Lower, Once, PartsUsed, UsesCounted};
 
 use crate::node::Node;
 
-// Counts one use more of part a of node i. It answers whether the part's number is lower than the node's.
-fn use_part(used: &mut [u8; 120], a: u8, i: usize) -> bool
-    requires { (i < 120) × (((j : ℕ) → j < 120 → slice_index used.old j < 255)) }
-    ensures lower { Tells result (a < i) }
-    ensures counts { result ≡ true → (j : ℕ) → j < 120 → slice_index used.new j ≡ slice_index used.old j + times j (a ∷ []) }
+// Counts one use more of each part of node i. None where some part's number is not lower than the node's.
+fn use_parts(used: &mut [u8; 120], node: Node, i: usize) -> Option<()>
+    requires node { i < 120 }
+    requires few { (j : ℕ) → j < 120 → slice_index used.old j ≤ 2 * i }
+    ensures { PartsUsed node i used.old used.new result }
 {
-    if a as usize >= i {
-        return false;
+    // not over `flatten`: the proof of that loop did not close
+    for part in node.parts() {
+        if let Some(part) = part {
+            let part = usize::from(part);
+            if part >= i {
+                return None;
+            }
+            used[part] += 1;
+        }
     }
-    used[a as usize] += 1;
-    true
-}
-
-// Counts one use more of each part of node i. It answers whether their numbers are lower than the node's.
-fn use_parts(used: &mut [u8; 120], node: Node, i: usize) -> bool
-    requires { (i < 120) × (((j : ℕ) → j < 120 → slice_index used.old j ≤ 2 * i)) }
-    ensures lower { Tells result (high (parts node) ≤ i) }
-    ensures counts { result ≡ true → (j : ℕ) → j < 120 → slice_index used.new j ≡ slice_index used.old j + times j (parts node) }
-{
-    match node {
-        Node::True | Node::False | Node::Atom(_) | Node::Goal(_) | Node::Same(_, _) => true,
-        Node::Not(a) | Node::Next(a) | Node::Eventually(a) | Node::Always(a) => use_part(
-            used, a, i,
-        ),
-        Node::And(a, b) | Node::Or(a, b) | Node::Until(a, b) => use_part(used, a, i)
-            && use_part(used, b, i),
-        Node::ForAll(q) | Node::Exists(q) => use_part(used, q.range, i)
-            && use_part(used, q.body, i),
-    }
+    Some(())
 }
 
 // How often each node is a part, counted over all nodes.
 // None where some part's number is not lower than its node's.
+#[tactic(auto, using(crate::proofs::Counts::two_parts))]
 fn count_uses(nodes: &[Node]) -> Option<[u8; 120]>
     requires { length nodes.now ≤ 120 }
     ensures { UsesCounted nodes.now result }
 {
-    let mut used = [0u8; 120];
-    for i in 0..nodes.len() {
-        if !use_parts(&mut used, nodes[i], i) {
-            return None;
-        }
+    // one count for each number of a node: a form asked for by name (docs/DECISIONS.md)
+    let mut used = [0; 120];
+    for (i, node) in nodes.iter().enumerate() {
+        use_parts(&mut used, *node, i)?;
     }
     Some(used)
 }
 
 // Whether parts have lower numbers and every node except the last is a part just once.
 pub(crate) fn is_tree(nodes: &[Node]) -> bool
-    requires { length nodes.now ≤ 120 }
-    ensures { Tells result (Lower nodes.now × Once nodes.now) }
+    requires some { 1 ≤ length nodes.now }
+    requires few { length nodes.now ≤ 120 }
+    ensures { IsTrue result ↔ (Lower nodes.now × Once nodes.now) }
 {
+    // by let-else, since a closure would have to say both conditions over again
     let Some(used) = count_uses(nodes) else {
         return false;
     };
-    for i in 1..nodes.len() {
-        if used[i - 1] != 1 {
-            return false;
-        }
-    }
-    true
+    used[..nodes.len() - 1].iter().all(|uses| *uses == 1)
 }

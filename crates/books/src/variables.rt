@@ -1,83 +1,84 @@
-ghost use Rattle.std.specs.Prelude.{◌≡◌, ℕ, ◌<◌, true, false, not, ◌&&◌, ◌||◌, length, ◌==◌, slice_index_or};
+ghost use Rattle.std.specs.Prelude.{◌≡◌, ℕ, ◌<◌, true, false, ◌||◌, ◌↔◌, ◌==◌, IsTrue, if◌then◌else◌};
 ghost use Rattle.model.specs.Atoms.{term_proper};
-ghost use Rattle.books.specs.Rules.{Tells};
+ghost use Rattle.books.specs.Marks.{has_variable};
 ghost use Rattle.books.specs.Trees.{is_variable};
 
 use model::term::Term;
+use std::array;
+use std::marker::Model;
 
-// A set of variables: for each of the four a mark that says whether it is in the set.
-#[derive(Clone, Copy)]
+// A set of variables: for each of the four a mark that says whether it is in the set. Contracts see the marks.
+// Marks and no bits: there are four, and one is asked for at a time.
+#[derive(Debug, Clone, Copy, PartialEq, Eq)]
 pub(crate) struct Variables {
-    pub(crate) marks: [bool; 4],
-    ghost places: { length marks ≡ 4 },
+    marks: [bool; 4],
+}
+
+impl Model for Variables {
+    ghost use Rattle.std.specs.Prelude.{◌≡◌, Bool, List, length, refl};
+
+    ghost Value = { List Bool };
+
+    ghost view = { λ v. v.marks };
+
+    ghost invariant = { λ v. length v.marks ≡ 4 };
+
+    ghost inverse = { λ marks. record { marks = marks } };
+
+    ghost inverse_ok = { λ v h. refl };
 }
 
 impl Variables {
     // The empty set.
     pub(crate) fn none() -> Variables
-        ensures { (x : ℕ) → slice_index_or result.marks x false ≡ false }
+        ensures { (x : ℕ) → has_variable result x ≡ false }
     {
         Variables { marks: [false; 4] }
     }
 
-    // The set with one variable put in.
-    pub(crate) fn with(self, variable: u8) -> Variables
+    // The set with a mark of its own for one variable: put in where the mark is true, taken out where it is false.
+    // `mark` is the value that is stored; it chooses no step.
+    pub(crate) fn marked(self, variable: u8, mark: bool) -> Variables
         requires { variable < 4 }
-        ensures { (x : ℕ) → slice_index_or result.marks x false ≡ (variable == x || slice_index_or self.marks x false) }
+        ensures { (x : ℕ) → has_variable result x ≡ (if variable == x then mark else has_variable self x) }
     {
         let mut marks = self.marks;
-        marks[variable as usize] = true;
-        Variables { marks }
-    }
-
-    // The set with one variable taken out.
-    pub(crate) fn without(self, variable: u8) -> Variables
-        requires { variable < 4 }
-        ensures { (x : ℕ) → slice_index_or result.marks x false ≡ (not (variable == x) && slice_index_or self.marks x false) }
-    {
-        let mut marks = self.marks;
-        marks[variable as usize] = false;
+        marks[usize::from(variable)] = mark;
         Variables { marks }
     }
 
     // What is in one set or the other.
     pub(crate) fn joined(self, other: Variables) -> Variables
-        ensures { (x : ℕ) → slice_index_or result.marks x false ≡ (slice_index_or self.marks x false || slice_index_or other.marks x false) }
+        ensures { (x : ℕ) → has_variable result x ≡ (has_variable self x || has_variable other x) }
     {
-        let (a, b) = (self.marks, other.marks);
         Variables {
-            marks: [a[0] | b[0], a[1] | b[1], a[2] | b[2], a[3] | b[3]],
+            marks: array::from_fn(|x| self.marks[x] || other.marks[x]),
         }
     }
 
     // The variable that a term is, if it is one.
+    // No `From`: it asks for a term that a record can hold, since a variant of an enum keeps no invariant.
     pub(crate) fn of(term: Term) -> Variables
         requires { term_proper term ≡ true }
-        ensures { (x : ℕ) → slice_index_or result.marks x false ≡ is_variable x term }
+        ensures { (x : ℕ) → has_variable result x ≡ is_variable x term }
     {
         match term {
             Term::Object(_) => Variables::none(),
-            Term::Variable(v) => Variables::none().with(v),
+            Term::Variable(v) => Variables::none().marked(v, true),
         }
     }
 
-    // Whether a variable is in the set.
+    // Whether a variable is in the set. None behind the fourth is.
     pub(crate) fn has(self, variable: u8) -> bool
-        requires { variable < 4 }
-        ensures { result ≡ slice_index_or self.marks variable false }
+        ensures { result ≡ has_variable self variable }
     {
-        self.marks[variable as usize]
+        self.marks.get(usize::from(variable)) == Some(&true)
     }
 
     // Whether the set is empty.
     pub(crate) fn is_empty(self) -> bool
-        ensures { Tells result ((x : ℕ) → slice_index_or self.marks x false ≡ false) }
+        ensures { IsTrue result ↔ ((x : ℕ) → has_variable self x ≡ false) }
     {
-        for mark in self.marks {
-            if mark {
-                return false;
-            }
-        }
-        true
+        !self.marks.contains(&true)
     }
 }

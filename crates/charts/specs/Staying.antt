@@ -1,56 +1,53 @@
 -- The steps of a chart while one picture stays: those from which the broken step is met within n turns grow with n, and
 -- there are 17 steps, so nothing new is met after 17 turns.
-use Rattle.std.specs.Prelude.{◌≡◌, ℕ, zero, suc, ◌+◌, ◌<◌, ◌≤◌, Bool, true, false, not, ◌&&◌, List, [], ◌∷◌, Decides, ◌==◌, nat_le, nat_lt}
+use Rattle.std.proofs.lemmas.Grind.{common_steps}
+use Rattle.std.specs.Prelude.{◌≡◌, ℕ, zero, suc, ◌+◌, ◌<◌, ◌≤◌, Bool, true, false, not, List, [], ◌∷◌, Decides, ◌==◌, nat_lt}
 use Rattle.std.proofs.Math.Logic.{⊎_elim}
 use Rattle.std.proofs.Math.Path.{refl, ap, subst}
 use Rattle.std.proofs.Common.{sym, ◌∙◌}
 use native.Mathlib.Omega.{arith}
-use Rattle.books.specs.Charts.{line_list}
 use Rattle.books.specs.declared.chart.Chart.{Chart}
 use Rattle.books.specs.declared.line.Line.{Line}
 use Rattle.books.specs.Lines.{line_fits}
-use Rattle.codec.specs.Codes.{every}
+use Rattle.std.specs.List.{list_all}
 use Rattle.model.specs.declared.picture.Picture.{Picture}
 use Rattle.model.specs.Goals.{literal_holds}
 use Rattle.model.specs.Runs.{picture_at}
 use Rattle.model.specs.Vocabularies.{fact_total}
 use Rattle.model.proofs.Growth.{stable_on}
-use Rattle.std.proofs.lemmas.Bool.{and_from, and_left, and_parts, cases_Bool, cases_lt, cond_both, cond-false, false≢true, leb-true, lt-ltb, ltb-true, ne_eqb, not_from_false, not_from_true, not-true, not-false}
+use Rattle.std.proofs.lemmas.Bool.{and_from, and_left, and_parts, cases_Bool, cases_lt, cond_both, cond-false, false≢true, lt-ltb, ltb-true, ne_eqb, not_from_false, not_from_true, not-true, not-false}
 use Rattle.charts.specs.Steps.{Permits, followed, leads, rests, stays, step_after, step_at}
 
 -- the bounds of a line that fits
 line_bounds : (facts : ℕ) (l : Line) → line_fits facts l ≡ true → (l.from ≤ 15) × (l.to ≤ 16)
-line_bounds facts l e =
-    let p = and_parts (nat_le l.from 15) (nat_le l.to 16 && nat_lt l.literal.fact.number facts) e in
-    let q = and_parts (nat_le l.to 16) (nat_lt l.literal.fact.number facts) p.1 in
-    (leb-true l.from 15 p.0, leb-true l.to 16 q.0)
+line_bounds facts l e = grind (arith, common_steps)
 
 -- no line leaves a step from 16 on
-none_followed : (facts : ℕ) (lines : List Line) (step : ℕ) (q : Picture) → every (line_fits facts) lines ≡ true → 16 ≤ step → followed lines step q ≡ step
+none_followed : (facts : ℕ) (lines : List Line) (step : ℕ) (q : Picture) → list_all (line_fits facts) lines ≡ true → 16 ≤ step → followed lines step q ≡ step
 none_followed facts [] step q e h = refl
 none_followed facts (l ∷ lines) step q e h =
-    let p = and_parts (line_fits facts l) (every (line_fits facts) lines) e in
+    let p = and_parts (line_fits facts l) (list_all (line_fits facts) lines) e in
     let b = line_bounds facts l p.0 in
     cond-false (leads step q l) l.to (followed lines step q)
     (and_left (l.from == step) (literal_holds q l.literal) (ne_eqb l.from step (λ z. omega (arith, b.0))))
     ∙ none_followed facts lines step q p.1 h
 
--- from one of the 17 steps, every line leads to one of them
-followed_below : (facts : ℕ) (lines : List Line) (step : ℕ) (q : Picture) → every (line_fits facts) lines ≡ true → step < 17 → followed lines step q < 17
+-- from one of the 17 steps, list_all line leads to one of them
+followed_below : (facts : ℕ) (lines : List Line) (step : ℕ) (q : Picture) → list_all (line_fits facts) lines ≡ true → step < 17 → followed lines step q < 17
 followed_below facts [] step q e h = h
 followed_below facts (l ∷ lines) step q e h =
-    let p = and_parts (line_fits facts l) (every (line_fits facts) lines) e in
+    let p = and_parts (line_fits facts l) (list_all (line_fits facts) lines) e in
     let b = line_bounds facts l p.0 in
     cond_both (leads step q l) l.to (followed lines step q) (λ n. n < 17) (λ z. omega (arith, b.1)) (λ z. followed_below facts lines step q p.1 h)
 
 module _ (c : Chart) where
   pub broken_stays : (step : ℕ) (q : Picture) → 16 ≤ step → step_after c step q ≡ step
   unfolding step_after
-  broken_stays step q h = none_followed (fact_total c.vocabulary) (line_list c) step q c.fits h
+  broken_stays step q h = none_followed (fact_total c.vocabulary) c.lines step q c.fits h
 
   step_below : (step : ℕ) (q : Picture) → step < 17 → step_after c step q < 17
   unfolding step_after
-  step_below step q h = followed_below (fact_total c.vocabulary) (line_list c) step q c.fits h
+  step_below step q h = followed_below (fact_total c.vocabulary) c.lines step q c.fits h
 
   -- the first picture taken in
   pub step_shift : (step : ℕ) (q r : Picture) (rs : List Picture) (i : ℕ) → step_at c (step_after c step q) r rs i ≡ step_at c step q (r ∷ rs) (suc i)

@@ -1,6 +1,5 @@
 -- Steps of a chart: where each picture leads, which runs are permitted, and when it rests.
 use Rattle.std.specs.Prelude.{ℕ, zero, suc, ◌<◌, Bool, cond, ◌&&◌, List, [], ◌∷◌, ◌==◌, nat_lt}
-use Rattle.books.specs.Charts.{line_list}
 use Rattle.books.specs.declared.chart.Chart.{Chart}
 use Rattle.books.specs.declared.line.Line.{Line}
 use Rattle.model.specs.declared.picture.Picture.{Picture}
@@ -18,7 +17,7 @@ followed (l ∷ lines) step q = cond (leads step q l) l.to (followed lines step 
 
 -- the step of a chart after a picture
 unfoldable pub step_after : Chart → ℕ → Picture → ℕ
-step_after c step q = followed (line_list c) step q
+step_after c step q = followed c.lines step q
 
 -- the step after the first i pictures of a run, the last of which stays for ever
 unfoldable pub step_at : Chart → ℕ → Picture → List Picture → ℕ → ℕ

@@ -4,14 +4,16 @@ ghost use Rattle.charts.specs.Staying.{taken_in, rests_decided, broken_none};
 ghost use Rattle.std.proofs.lemmas.Bool.{eqb-true};
 
 use books::chart::Chart;
+use books::line::BROKEN;
 use model::book::Book;
 use model::picture::Picture;
 
-// The number of the broken step, which no line leaves.
-const BROKEN: u8 = 16;
+// How many steps there are.
+const STEPS: u8 = BROKEN + 1;
 
 // A step of a chart.
-#[derive(Clone, Copy)]
+// By its number, as a record has it, so that lines and callers name steps alike, the broken one too.
+#[derive(Debug, Clone, Copy, PartialEq, Eq)]
 pub struct Step {
     pub number: u8,
 }
@@ -24,30 +26,32 @@ pub struct ChartBook {
 
 impl ChartBook {
     // The step after a picture: of the lines from the step, the first whose literal holds is followed. Where none holds,
-    // the step stays.
+    // the step stays. Steps go in and out by their numbers, as lines have them.
+    #[tactic(auto, unfolding(crate::specs::Steps::step_after))]
     pub fn follow(&self, step: u8, picture: &Picture) -> u8
         ensures { result ≡ step_after self.now.chart step picture.now }
     {
-        let mut k = 0;
+        let mut lines = self.chart.lines.as_slice().iter();
+        // the loop yields the next step by `break`: a form asked for by name (docs/DECISIONS.md)
         loop {
-            if k >= self.chart.count {
+            let Some(line) = lines.next() else {
                 break step;
-            }
-            let line = self.chart.lines[k as usize];
+            };
             if line.from == step && line.literal.holds(picture) {
                 break line.to;
             }
-            k += 1;
         }
     }
 
-    // Whether a step is and stays below the broken one while a picture stays. There are 17 steps: after as many turns
-    // the steps go round, so nothing new can come.
+    // Whether a step, by its number, is and stays below the broken one while a picture stays.
+    // After as many turns as there are steps, they go round, so nothing new can come.
+    #[tactic(auto, unfolding(crate::specs::Steps::stays))]
     pub fn holds_out(&self, step: u8, picture: &Picture) -> bool
         ensures { result ≡ rests self.now.chart step picture.now }
     {
         let mut at = step;
-        for _turn in 0..17u8 {
+        // so many turns, and nothing to go over: each begins at the step that the one before led to
+        for _turn in 0..STEPS {
             if at >= BROKEN {
                 return false;
             }
@@ -91,6 +95,6 @@ impl Book for ChartBook {
     }
 
     fn is_dead(&self, label: &Step) -> bool {
-        label.number == BROKEN
+        *label == Step { number: BROKEN }
     }
 }

@@ -4,7 +4,7 @@ use native.Mathlib.Nat.{eq_of_mul-eq-mul_left}
 use Rattle.std.specs.List.{flat_map}
 use Rattle.std.proofs.lemmas.List.{append_assoc, append-nil, drop_all, drop_at, drop_more, length-append, take_at, take_more}
 use Rattle.std.proofs.lemmas.Bool.{and_from, and_parts}
-use Rattle.codec.specs.Codes.{every}
+use Rattle.std.specs.List.{list_all}
 
 -- a list written out by its places, n of them from place i on
 abbrev pub spelled : ℕ → ℕ → List ℕ → List ℕ
@@ -33,16 +33,16 @@ joined_push code [] x = append-nil (code x)
 joined_push code (y ∷ xs) x =
     ap (λ (t : List ℕ). code y ++ t) (joined_push code xs x) ∙ sym (append_assoc (code y) (flat_map code xs) (code x))
 
-pub every_push : {A : Type 0} (test : A → Bool) (xs : List A) (x : A) → every test xs ≡ true → test x ≡ true → every test (xs ++ (x ∷ [])) ≡ true
+pub every_push : {A : Type 0} (test : A → Bool) (xs : List A) (x : A) → list_all test xs ≡ true → test x ≡ true → list_all test (xs ++ (x ∷ [])) ≡ true
 every_push test [] x e h = and_from (test x) true h refl
 every_push test (y ∷ xs) x e h =
-    let p = and_parts (test y) (every test xs) e in and_from (test y) (every test (xs ++ (x ∷ []))) p.0 (every_push test xs x p.1 h)
+    let p = and_parts (test y) (list_all test xs) e in and_from (test y) (list_all test (xs ++ (x ∷ []))) p.0 (every_push test xs x p.1 h)
 
--- what every value passes, each does
-pub every_at : {A : Type 0} (test : A → Bool) (xs : List A) (d : A) (i : ℕ) → every test xs ≡ true → i < length xs → test (get_or xs i d) ≡ true
+-- what list_all value passes, each does
+pub every_at : {A : Type 0} (test : A → Bool) (xs : List A) (d : A) (i : ℕ) → list_all test xs ≡ true → i < length xs → test (get_or xs i d) ≡ true
 every_at test [] d i e h = absurd (omega arith)
-every_at test (x ∷ xs) d zero e h = (and_parts (test x) (every test xs) e).0
-every_at test (x ∷ xs) d (suc i) e h = every_at test xs d i (and_parts (test x) (every test xs) e).1 (omega arith)
+every_at test (x ∷ xs) d zero e h = (and_parts (test x) (list_all test xs) e).0
+every_at test (x ∷ xs) d (suc i) e h = every_at test xs d i (and_parts (test x) (list_all test xs) e).1 (omega arith)
 
 module _ {A : Type 0} (code : A → List ℕ) (proper : A → Bool) (size : ℕ) (fixed : (x : A) → length (code x) ≡ size) where
   pub length_joined : (xs : List A) → length (flat_map code xs) ≡ size * length xs
@@ -51,26 +51,29 @@ module _ {A : Type 0} (code : A → List ℕ) (proper : A → Bool) (size : ℕ)
       length-append (code x) (flat_map code xs)
       ∙ omega (arith, fixed x, length_joined xs, mul-suc size (length xs))
 
-  -- Where some values and then a rest make up the codes of a longer list, the rest begins with the code of the next value.
-  pub next_value : (done xs : List A) (rest : List ℕ) → every proper xs ≡ true → length done < length xs → flat_map code done ++ rest ≡ flat_map code xs
-      → (x : A) × (ys : List A) × (proper x ≡ true) × (rest ≡ code x ++ flat_map code ys)
-  next_value [] [] rest e h q = absurd (omega arith)
-  next_value [] (x ∷ xs) rest e h q = (x, xs, (and_parts (proper x) (every proper xs) e).0, q)
-  next_value (d ∷ done) [] rest e h q = absurd (omega arith)
-  next_value (d ∷ done) (x ∷ xs) rest e h q =
-      next_value done xs rest (and_parts (proper x) (every proper xs) e).1 (omega arith)
+  -- Where some values and then a rest make up the codes of a list, there are more values in it, and the rest begins with
+  -- the code of the next one.
+  pub next_value : (done xs : List A) (rest : List ℕ) → 0 < length rest → list_all proper xs ≡ true → flat_map code done ++ rest ≡ flat_map code xs
+      → (length done < length xs) × ((x : A) × (ys : List A) × (proper x ≡ true) × (rest ≡ code x ++ flat_map code ys))
+  next_value [] [] rest h e q = absurd (omega (arith, ap length q))
+  next_value [] (x ∷ xs) rest h e q = (omega arith, (x, xs, (and_parts (proper x) (list_all proper xs) e).0, q))
+  next_value (d ∷ done) [] rest h e q = absurd (omega (arith, ap length q, length-append (flat_map code (d ∷ done)) rest))
+  next_value (d ∷ done) (x ∷ xs) rest h e q =
+      let n = next_value done xs rest h (and_parts (proper x) (list_all proper xs) e).1
       (same_back (code d) (code x) _ _ (fixed d ∙ sym (fixed x)) (sym (append_assoc (code d) (flat_map code done) rest) ∙ q))
+      in
+      (omega (arith, n.0), n.1)
 
   -- Two lists of as many values with the same codes are the same, where a value is known by its code.
   pub same_joined : ((x y : A) → proper x ≡ true → proper y ≡ true → code x ≡ code y → x ≡ y)
-      → (xs ys : List A) → length xs ≡ length ys → every proper xs ≡ true → every proper ys ≡ true → flat_map code xs ≡ flat_map code ys → xs ≡ ys
+      → (xs ys : List A) → length xs ≡ length ys → list_all proper xs ≡ true → list_all proper ys ≡ true → flat_map code xs ≡ flat_map code ys → xs ≡ ys
   same_joined one [] [] l e f q = refl
   same_joined one [] (y ∷ ys) l e f q = absurd (omega arith)
   same_joined one (x ∷ xs) [] l e f q = absurd (omega arith)
   same_joined one (x ∷ xs) (y ∷ ys) l e f q =
       let w : length (code x) ≡ length (code y) = fixed x ∙ sym (fixed y) in
-      let p = and_parts (proper x) (every proper xs) e in
-      let r = and_parts (proper y) (every proper ys) f in
+      let p = and_parts (proper x) (list_all proper xs) e in
+      let r = and_parts (proper y) (list_all proper ys) f in
       let a : x ≡ y = one x y p.0 r.0 (same_front (code x) (code y) _ _ w q) in
       let b : xs ≡ ys = same_joined one xs ys (omega arith) p.1 r.1 (same_back (code x) (code y) _ _ w q) in
       cc
@@ -82,7 +85,7 @@ module _ {A : Type 0} (code : A → List ℕ) (proper : A → Bool) (size : ℕ)
 
   -- a list of values is known by its codes
   pub known_list : 0 < size → ((x y : A) → proper x ≡ true → proper y ≡ true → code x ≡ code y → x ≡ y)
-      → (xs ys : List A) → every proper xs ≡ true → every proper ys ≡ true → flat_map code xs ≡ flat_map code ys → xs ≡ ys
+      → (xs ys : List A) → list_all proper xs ≡ true → list_all proper ys ≡ true → flat_map code xs ≡ flat_map code ys → xs ≡ ys
   known_list z one xs ys e f q =
       same_joined one xs ys (count_known xs (flat_map code ys) (length ys) z (length_joined ys) q) e f q
 

@@ -1,4 +1,2 @@
 pub mod Coding
-pub mod Padded
-pub mod Passing
 pub mod Writes

@@ -1,9 +1,13 @@
 -- Writing one text after another into a buffer leaves the joined text, and behind it what the buffer held.
-use Rattle.std.proofs.Common.{◌≡◌, ℕ, ◌+◌, ◌<◌, ◌≤◌, List, [], ◌∷◌, ◌++◌, length, take, drop, set, sym, refl, ap, ◌∙◌, add-zero, zero-add, add-one, arith, length-append, take-append-drop}
+use Rattle.std.proofs.Common.{◌≡◌, ℕ, ◌+◌, ◌<◌, ◌≤◌, List, [], ◌∷◌, ◌++◌, length, take, drop, set, sym, refl, ap, ◌∙◌, add-zero, add-one, arith, length-append, take-append-drop}
 use lib.Seq.{paste}
 use Rattle.std.proofs.lemmas.List.Edits.{paste_all, paste-paste, length-paste}
 use Rattle.std.proofs.lemmas.List.{set_split}
+use Rattle.std.specs.Prelude.{Option, Some, None}
 use Rattle.codec.specs.Codes.{written}
+use base.Fml.{GName}
+use Rattle.codec.specs.Writing.{Wrote, WroteFrom}
+use Rattle.codec.specs.declared.writer.Writer.{Writer}
 
 pub as_paste : (out : List ℕ) (at : ℕ) (text : List ℕ) → paste out at text (length text) ≡ written out at text
 as_paste out at text = paste_all out at text (length text) refl
@@ -26,27 +30,21 @@ length_written out at a h = ap length (sym (as_paste out at a)) ∙ length-paste
 pub written_byte : (out : List ℕ) (i b : ℕ) → i < length out → set out i b ≡ written out i (b ∷ [])
 written_byte out i b h = set_split out i b h ∙ ap (λ (n : ℕ). take i out ++ (b ∷ drop n out)) (sym (add-one i))
 
--- a buffer that is being filled from its start: the text so far, over what the buffer held first
-pub record Filled (first text : List ℕ) (at : ℕ) (now : List ℕ) : Type 0 where
-  pub place : at ≡ length text
-  pub holds : now ≡ written first 0 text
-
-pub filled_none : (first : List ℕ) → Filled first [] 0 first
-filled_none first = record { place = refl; holds = refl }
-
-pub filled_more : (first text more : List ℕ) (at next : ℕ) (was now : List ℕ) → Filled first text at was
-    → next ≡ at + length more → now ≡ written was at more → Filled first (text ++ more) next now
-filled_more first text more at next was now f n w =
-    let e : at ≡ 0 + length text = omega (arith, f.place) in
-    record {
-      place = n ∙ ap (λ (k : ℕ). k + length more) f.place ∙ sym (length-append text more);
-      holds =
-          w
-          ∙ ap (λ (o : List ℕ). written o at more) f.holds
-          ∙ ap (λ (k : ℕ). written (written first 0 text) k more) e
-          ∙ written_more first 0 text more (omega arith);
-    }
-
--- what a filled buffer holds, as a contract says it
-pub filled_holds : (first text : List ℕ) (at : ℕ) (now : List ℕ) → Filled first text at now → now ≡ text ++ drop (length text) first
-filled_holds first text at now f = f.holds ∙ ap (λ (k : ℕ). text ++ drop k first) (zero-add (length text))
+-- what is written behind a text joins it
+pub wrote_more : (name : GName) (out : List ℕ) (at : ℕ) (mid after : Writer) (a b : List ℕ) (r : Option (Unit {0})) → WroteFrom name out at a mid (Some tt)
+    → Wrote mid b after r → WroteFrom name out at (a ++ b) after r
+wrote_more name out at mid after a b (Some _) u v =
+    let k : at + length a ≤ length out = omega (arith, u.2, u.3) in
+    let l : length mid.out.now ≡ length out = ap length u.1 ∙ length_written out at a k in (
+      v.0 ∙ u.0,
+      v.1
+          ∙ ap (λ (o : List ℕ). written o mid.at b) u.1
+          ∙ ap (λ (n : ℕ). written (written out at a) n b) u.2
+          ∙ written_more out at a b (omega (arith, k)),
+      omega (arith, u.2, v.2, length-append a b),
+      omega (arith, v.3, l),
+    )
+wrote_more name out at mid after a b None u v =
+    let k : at + length a ≤ length out = omega (arith, u.2, u.3) in
+    let l : length mid.out.now ≡ length out = ap length u.1 ∙ length_written out at a k in
+    (v.0 ∙ u.0, omega (arith, v.1, l, u.2, length-append a b))

@@ -1,1 +1,4 @@
 pub mod Codes
+pub mod Padding
+pub mod Tables
+pub mod Writing

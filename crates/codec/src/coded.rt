@@ -1,30 +1,28 @@
-ghost use Rattle.std.specs.Prelude.{◌≡◌, ℕ, Bool, true, List, length, slice_index};
+ghost use Rattle.std.specs.Prelude.{◌≡◌, ◌≤◌, ℕ, Bool, true, List, length};
 ghost use Rattle.codec.specs.Codes.{Decoded};
 
 // A kind of value that a record holds in a fixed number of bytes.
-pub trait Coded: Copy {
+pub trait Coded<const WIDTH: usize>: Copy {
     // the bytes of a value
     ghost code: { Self → List ℕ };
 
     // which values a record can hold
     ghost proper: { Self → Bool };
 
-    // how many bytes each value has
-    ghost size: { ℕ };
-
-    // How many bytes each value has.
-    fn width() -> usize
-        ensures { result ≡ size };
-
-    // The value that has just these bytes, or none where no value has them.
-    fn decode(bytes: &[u8]) -> Option<Self>
+    // The value that has these bytes, or none where no value has them.
+    fn decode(bytes: &[u8; WIDTH]) -> Option<Self>
         ensures { Decoded code proper bytes.now result };
 
-    // Byte k of a value that a record can hold, and 0 behind its last.
-    fn byte(&self, k: usize) -> u8
-        ensures { proper self.now ≡ true → result ≡ slice_index (code self.now) k };
+    // The bytes of a value that a record can hold.
+    fn encode(&self) -> [u8; WIDTH]
+        ensures { proper self.now ≡ true → result ≡ code self.now };
 
-    ghost fixed: { (x : Self) → length (code x) ≡ size };
+    // that number is small
+    ghost narrow: { WIDTH ≤ 16 };
 
+    // each value has as many bytes
+    ghost fixed: { (x : Self) → length (code x) ≡ WIDTH };
+
+    // a value that a record can hold is known by its bytes
     ghost one: { (x y : Self) → proper x ≡ true → proper y ≡ true → code x ≡ code y → x ≡ y };
 }

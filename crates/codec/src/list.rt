@@ -1,56 +1,37 @@
-ghost use Rattle.std.specs.Prelude.{◌≡◌, ◌*◌, true, length};
 ghost use Rattle.codec.specs.Codes.{ListDecoded, ListEncoded};
 
+use crate::blank::Blank;
 use crate::coded::Coded;
+use crate::table::Table;
+use crate::writer::Writer;
 
-// Reads one value for each place of `items` from bytes that are just their codes.
-// It answers whether there are such values; where there are none, what `items` holds afterwards is free.
-pub fn decode_list<T: Coded>(bytes: &[u8], items: &mut [T]) -> bool
-    ensures { ListDecoded T.Coded.code T.Coded.proper bytes.now (length items.old) items.new result }
+// The table of the values whose codes, one after the other, are just these bytes.
+// None where there are no such values, or more than the table has places for.
+pub fn decode_list<T: Coded<WIDTH> + Blank, const WIDTH: usize, const N: usize>(
+    bytes: &[u8],
+) -> Option<Table<T, N>>
+    ensures { ListDecoded T.Coded.code T.Coded.proper N bytes.now result }
 {
-    let width = T::width();
+    let mut table = Table::empty();
     let mut rest = bytes;
-    for i in 0..items.len() {
-        if rest.len() < width {
-            return false;
-        }
-        let (front, back) = rest.split_at(width);
-        match T::decode(front) {
-            Some(x) => items[i] = x,
-            None => return false,
-        }
+    // not by chunks of the whole: each value is read from the front of what is left, as its proof goes
+    while !rest.is_empty() {
+        let (front, back) = rest.split_first_chunk::<WIDTH>()?;
+        table.push(T::decode(front)?)?;
         rest = back;
     }
-    rest.is_empty()
-}
-
-// Writes the code of one value over a buffer of its size.
-fn encode<T: Coded>(x: &T, out: &mut [u8])
-    requires { length out.old ≡ T.Coded.size }
-    ensures { T.Coded.proper x.now ≡ true → out.new ≡ T.Coded.code x.now }
-{
-    for k in 0..out.len() {
-        out[k] = x.byte(k);
-    }
+    Some(table)
 }
 
 // Writes the codes of values that a record can hold over a buffer of just their size.
-// It answers whether the buffer has that size; a buffer of another size stays as it was.
-pub fn encode_list<T: Coded>(items: &[T], out: &mut [u8]) -> bool
-    ensures { ListEncoded T.Coded.code T.Coded.proper T.Coded.size items.now out.old out.new result }
+// None where the buffer has another size, and then it stays as it was.
+pub fn encode_list<T: Coded<WIDTH>, const WIDTH: usize>(items: &[T], out: &mut [u8]) -> Option<()>
+    ensures { ListEncoded T.Coded.code T.Coded.proper WIDTH items.now out.old out.new result }
 {
-    let width = T::width();
-    let Some(size) = width.checked_mul(items.len()) else {
-        return false;
-    };
+    let size = WIDTH.checked_mul(items.len())?;
     if out.len() != size {
-        return false;
+        return None;
     }
-    let mut at = 0;
-    for i in 0..items.len() {
-        let end = at + width;
-        encode(&items[i], &mut out[at..end]);
-        at = end;
-    }
-    true
+    let mut writer = Writer { out, at: 0 };
+    writer.put_all(items)
 }

@@ -2,16 +2,14 @@
 use Rattle.std.proofs.Common.{◌≡◌, ℕ, true, List, length, refl, arith, rules}
 use Rattle.books.proofs.Proper.{formula_proper}
 use Rattle.books.proofs.Sound.{formula_sound}
-use Rattle.books.specs.Charts.{line_list}
 use Rattle.books.specs.declared.chart.Chart.{Chart}
 use Rattle.books.specs.declared.formula.FormulaTable.{FormulaTable}
 use Rattle.books.specs.declared.line.Line.{Line}
 use Rattle.books.specs.declared.node.Node.{Node}
 use Rattle.books.specs.Lines.{line_bytes}
 use Rattle.books.specs.Nodes.{node_bytes, node_proper}
-use Rattle.books.specs.Tables.{node_list}
 use Rattle.codec.proofs.Coding.{known_list}
-use Rattle.codec.specs.Codes.{every}
+use Rattle.std.specs.List.{list_all}
 use Rattle.model.specs.declared.vocabulary.Vocabulary.{Vocabulary}
 use Rattle.std.specs.List.{flat_map}
 use Rattle.feeder.specs.declared.header.BookKind.TheVariants as kind
@@ -28,11 +26,11 @@ node_size n = search rules
 node_known : (x y : Node) → node_proper x ≡ true → node_proper y ≡ true → node_bytes x ≡ node_bytes y → x ≡ y
 node_known x y p q e = search rules
 
-pub nodes_known : (xs ys : List Node) → every node_proper xs ≡ true → every node_proper ys ≡ true → flat_map node_bytes xs ≡ flat_map node_bytes ys → xs ≡ ys
+pub nodes_known : (xs ys : List Node) → list_all node_proper xs ≡ true → list_all node_proper ys ≡ true → flat_map node_bytes xs ≡ flat_map node_bytes ys → xs ≡ ys
 nodes_known = known_list node_bytes node_proper 4 node_size (omega arith) node_known
 
-pub nodes_proper : (t : FormulaTable) → every node_proper (node_list t) ≡ true
-nodes_proper t = formula_proper t.vocabulary (node_list t) (formula_sound t)
+pub nodes_proper : (t : FormulaTable) → list_all node_proper t.nodes ≡ true
+nodes_proper t = formula_proper t.vocabulary t.nodes (formula_sound t)
 
 line_known : (x y : Line) → line_bytes x ≡ line_bytes y → x ≡ y
 line_known x y e = search rules
@@ -42,11 +40,11 @@ lines_known = known_plain line_bytes 5 (λ l. refl) (omega arith) line_known
 
 -- rules that suit a header of one kind are of that kind
 pub as_formula : (h : Header) (v : Vocabulary) (bytes : List ℕ) (r : RuleTable) → h.book ≡ kind.Formula → Found (SuitRules h v) rule_bytes bytes r
-    → (t : FormulaTable) × (r ≡ Formula t) × (t.vocabulary ≡ v) × (bytes ≡ flat_map node_bytes (node_list t))
+    → (t : FormulaTable) × (r ≡ Formula t) × (t.vocabulary ≡ v) × (bytes ≡ flat_map node_bytes t.nodes)
 as_formula h v bytes (Formula t) k f = (t, refl, f.suits.words, f.same)
 as_formula h v bytes (Drawn t) k f = absurd (let z : ◌≡◌ {A = ℕ} 0 1 = let q = f.suits.kind in cc in omega arith)
 
 pub as_chart : (h : Header) (v : Vocabulary) (bytes : List ℕ) (r : RuleTable) → h.book ≡ kind.Chart → Found (SuitRules h v) rule_bytes bytes r
-    → (t : Chart) × (r ≡ Drawn t) × (t.vocabulary ≡ v) × (bytes ≡ flat_map line_bytes (line_list t))
+    → (t : Chart) × (r ≡ Drawn t) × (t.vocabulary ≡ v) × (bytes ≡ flat_map line_bytes t.lines)
 as_chart h v bytes (Formula t) k f = absurd (let z : ◌≡◌ {A = ℕ} 0 1 = let q = f.suits.kind in cc in omega arith)
 as_chart h v bytes (Drawn t) k f = (t, refl, f.suits.words, f.same)

@@ -1,7 +1,7 @@
 -- The parts of a record are known by their bytes: at most one header, one vocabulary and so on has them.
-use Rattle.std.proofs.Common.{◌≡◌, ℕ, ◌/◌, ◌%◌, ◌<◌, Bool, true, ◌&&◌, List, [], ◌∷◌, ◌++◌, length, sym, refl, ap, ◌∙◌, arith, rules}
+use Rattle.std.proofs.Common.{◌≡◌, ℕ, ◌/◌, ◌%◌, ◌<◌, Bool, true, false, List, [], ◌∷◌, ◌++◌, length, sym, refl, ap, ◌∙◌, arith, rules}
 use Rattle.codec.proofs.Coding.{known_list}
-use Rattle.codec.specs.Codes.{every}
+use Rattle.std.specs.List.{list_all}
 use Rattle.model.proofs.Vocabularies.{same_vocabulary}
 use Rattle.model.specs.Ascents.{fact_numbers}
 use Rattle.model.specs.declared.fact.Fact.{Fact}
@@ -10,23 +10,26 @@ use Rattle.model.specs.declared.vocabulary.Arity.{Arity}
 use Rattle.model.specs.declared.vocabulary.Vocabulary.{Vocabulary}
 use Rattle.model.specs.Facts.{arity_byte}
 use Rattle.model.specs.Literals.{fact_bytes, literal_bytes, word_bytes}
-use Rattle.model.specs.Vocabularies.{arity_list}
 use Rattle.std.specs.List.{flat_map}
+use Rattle.std.specs.Bool.{then_some}
+use Rattle.std.proofs.lemmas.Bool.{false≢true}
+use Rattle.codec.specs.Codes.{Decoded}
+use Rattle.std.proofs.lemmas.List.Folds.{list_all-map}
 use Rattle.feeder.specs.declared.header.Header.{Header}
 use Rattle.feeder.specs.Headers.{header_bytes}
 use Rattle.feeder.specs.Records.{arity_bytes}
 use Rattle.feeder.specs.Verdicts.{HasHeader, HasWords}
 
 -- a test that everything passes
-pub every_any : {A : Type 0} (xs : List A) → every (λ _. true) xs ≡ true
-every_any [] = refl
-every_any (x ∷ xs) = every_any xs
+pub all_any : {A : Type 0} (xs : List A) → list_all (λ _. true) xs ≡ true
+all_any [] = refl
+all_any (x ∷ xs) = all_any xs
 
 -- a list of values that a record can always hold is known by its codes
 pub known_plain : {A : Type 0} (code : A → List ℕ) (size : ℕ) → ((x : A) → length (code x) ≡ size) → 0 < size
     → ((x y : A) → code x ≡ code y → x ≡ y) → (xs ys : List A) → flat_map code xs ≡ flat_map code ys → xs ≡ ys
 known_plain code size fixed z one xs ys e =
-    known_list code (λ _. true) size fixed z (λ x y p q c. one x y c) xs ys (every_any xs) (every_any ys) e
+    known_list code (λ _. true) size fixed z (λ x y p q c. one x y c) xs ys (all_any xs) (all_any ys) e
 
 pub header_known : (x y : Header) → header_bytes x ≡ header_bytes y → x ≡ y
 header_known x y e = search rules
@@ -39,7 +42,7 @@ arities_known = known_plain (λ a. arity_byte a ∷ []) 1 (λ a. refl) (omega ar
 
 pub words_known : (v w : Vocabulary) → v.objects ≡ w.objects → arity_bytes v ≡ arity_bytes w → v ≡ w
 words_known v w o e =
-    same_vocabulary v w o (arities_known (arity_list v) (arity_list w) e)
+    same_vocabulary v w o (arities_known v.arities w.arities e)
 
 pub header_one : (bytes : List ℕ) (h k : Header) → HasHeader bytes h → HasHeader bytes k → h ≡ k
 header_one bytes h k x y = header_known h k (sym x.same ∙ y.same)
@@ -72,12 +75,23 @@ pub as_facts : List ℕ → List Fact
 as_facts [] = []
 as_facts (n ∷ ns) = record { number = n } ∷ as_facts ns
 
+pub as_facts_few : (ns : List ℕ) → length (as_facts ns) ≡ length ns
+unfolding as_facts
+as_facts_few [] = refl
+as_facts_few (n ∷ ns) = omega (arith, as_facts_few ns)
+
 pub as_facts_codes : (ns : List ℕ) → flat_map fact_bytes (as_facts ns) ≡ flat_map word_bytes ns
 unfolding as_facts
 as_facts_codes [] = refl
 as_facts_codes (n ∷ ns) = ap (λ (t : List ℕ). word_bytes n ++ t) (as_facts_codes ns)
 
 -- a test of facts by their numbers
-pub every_number : (test : ℕ → Bool) (facts : List Fact) → every test (fact_numbers facts) ≡ every (λ f. test f.number) facts
-every_number test [] = refl
-every_number test (f ∷ facts) = ap (λ (b : Bool). test f.number && b) (every_number test facts)
+pub all_numbers : (test : ℕ → Bool) (facts : List Fact) → list_all test (fact_numbers facts) ≡ list_all (λ f. test f.number) facts
+all_numbers test facts = list_all-map test (λ (f : Fact). f.number) facts
+
+-- a value made of its bytes and then tested
+pub decoded_tested : {A : Type 0} (code : A → List ℕ) (proper : A → Bool) → ((x y : A) → code x ≡ code y → x ≡ y)
+    → (bytes : List ℕ) (b : Bool) (x : A) → code x ≡ bytes → b ≡ proper x → Decoded code proper bytes (then_some b x)
+decoded_tested code proper one bytes true x e p = (e, sym p)
+decoded_tested code proper one bytes false x e p =
+    λ y q k. false≢true (p ∙ ap proper (one x y (e ∙ sym k)) ∙ q)

@@ -8,3 +8,4 @@ pub mod Shapes
 pub mod Sizes
 pub mod Steps
 pub mod Whole
+pub mod Writing

@@ -1,20 +1,17 @@
 -- Plants are known by their bytes: which table of the header's kind can have them.
 use Rattle.std.proofs.Common.{◌≡◌, ℕ, ◌*◌, true, List, length, take, drop, refl, ap, ◌∙◌, arith, rules}
 use Rattle.codec.proofs.Coding.{length_joined}
-use Rattle.codec.proofs.Passing.{all_weaker}
-use Rattle.codec.specs.Codes.{every}
+use Rattle.std.specs.List.{list_all}
 use Rattle.model.specs.declared.vocabulary.Vocabulary.{Vocabulary}
 use Rattle.model.specs.Literals.{word_bytes}
-use Rattle.plants.proofs.Proper.{operator_proper}
-use Rattle.plants.proofs.Sound.{actions_sound}
-use Rattle.plants.specs.Actions.{operator_list}
+use Rattle.plants.proofs.Proper.{all_weaker, operator_proper}
 use Rattle.plants.specs.declared.actions.ActionTable.{ActionTable}
 use Rattle.plants.specs.declared.network.Network.{Network}
 use Rattle.plants.specs.declared.network.Switch.{Switch}
-use Rattle.plants.specs.Networks.{network_bytes, switch_list}
+use Rattle.plants.specs.Networks.{network_bytes}
 use Rattle.plants.specs.Operators.{operator_bytes, operator_fits}
 use Rattle.plants.specs.Switches.{switch_bytes}
-use Rattle.std.proofs.lemmas.List.{drop_at, length-take-le, take_at}
+use Rattle.std.proofs.lemmas.List.{drop_at, take_at}
 use Rattle.std.specs.List.{flat_map}
 use Rattle.feeder.specs.declared.header.Header.{Header}
 use Rattle.feeder.specs.declared.header.PlantKind.TheVariants as kind
@@ -25,15 +22,8 @@ use Rattle.feeder.specs.Tables.{plant_bytes}
 use Rattle.feeder.specs.Verdicts.{Found, SuitPlant}
 use Rattle.feeder.proofs.Known.{known_plain}
 
-pub operators_hold : (t : ActionTable) → every operator_holds (operator_list t) ≡ true
-operators_hold t =
-    all_weaker (operator_fits t.vocabulary) operator_holds (operator_proper t.vocabulary) (operator_list t) (actions_sound t).fits
-
-pub length_operators : (t : ActionTable) → length (operator_list t) ≡ t.count
-length_operators t = length-take-le t.count t.operators (omega (arith, t.places, t.few))
-
-pub length_switches : (w : Network) → length (switch_list w) ≡ w.count
-length_switches w = length-take-le w.count w.switches (omega (arith, w.places, w.few, w.vocabulary.high))
+pub operators_hold : (t : ActionTable) → list_all operator_holds t.operators ≡ true
+operators_hold t = all_weaker (operator_fits t.vocabulary) operator_holds (operator_proper t.vocabulary) t.operators t.fits
 
 switch_known : (x y : Switch) → switch_bytes x ≡ switch_bytes y → x ≡ y
 switch_known x y e = search rules
@@ -45,21 +35,21 @@ pub length_switch_bytes : (xs : List Switch) → length (flat_map switch_bytes x
 length_switch_bytes = length_joined switch_bytes (λ _. true) 2 (λ s. refl)
 
 -- the two parts of a network's bytes
-pub switches_front : (w : Network) (bytes : List ℕ) (at : ℕ) → bytes ≡ network_bytes w → at ≡ 2 * w.count → take at bytes ≡ flat_map switch_bytes (switch_list w)
+pub switches_front : (w : Network) (bytes : List ℕ) (at : ℕ) → bytes ≡ network_bytes w → at ≡ 2 * length w.switches → take at bytes ≡ flat_map switch_bytes w.switches
 switches_front w bytes at e n =
-    ap (λ (t : List ℕ). take at t) e ∙ take_at (flat_map switch_bytes (switch_list w)) _ at (omega (arith, length_switch_bytes (switch_list w), length_switches w))
+    ap (λ (t : List ℕ). take at t) e ∙ take_at (flat_map switch_bytes w.switches) _ at (omega (arith, length_switch_bytes w.switches))
 
-pub feeds_back : (w : Network) (bytes : List ℕ) (at : ℕ) → bytes ≡ network_bytes w → at ≡ 2 * w.count → drop at bytes ≡ word_bytes w.fed
+pub feeds_back : (w : Network) (bytes : List ℕ) (at : ℕ) → bytes ≡ network_bytes w → at ≡ 2 * length w.switches → drop at bytes ≡ word_bytes w.fed
 feeds_back w bytes at e n =
-    ap (λ (t : List ℕ). drop at t) e ∙ drop_at (flat_map switch_bytes (switch_list w)) _ at (omega (arith, length_switch_bytes (switch_list w), length_switches w))
+    ap (λ (t : List ℕ). drop at t) e ∙ drop_at (flat_map switch_bytes w.switches) _ at (omega (arith, length_switch_bytes w.switches))
 
 -- a plant that suits a header of one kind is of that kind
 pub as_actions : (h : Header) (v : Vocabulary) (bytes : List ℕ) (p : PlantTable) → h.plant ≡ kind.Actions → Found (SuitPlant h v) plant_bytes bytes p
-    → (t : ActionTable) × (p ≡ Actions t) × (t.count ≡ h.rows) × (t.vocabulary ≡ v) × (bytes ≡ flat_map operator_bytes (operator_list t))
+    → (t : ActionTable) × (p ≡ Actions t) × (length t.operators ≡ h.rows) × (t.vocabulary ≡ v) × (bytes ≡ flat_map operator_bytes t.operators)
 as_actions h v bytes (Actions t) k f = (t, refl, f.suits.rows, f.suits.words, f.same)
 as_actions h v bytes (Wired w) k f = absurd (let z : ◌≡◌ {A = ℕ} 0 1 = let q = f.suits.kind in cc in omega arith)
 
 pub as_network : (h : Header) (v : Vocabulary) (bytes : List ℕ) (p : PlantTable) → h.plant ≡ kind.Network → Found (SuitPlant h v) plant_bytes bytes p
-    → (w : Network) × (p ≡ Wired w) × (w.count ≡ h.rows) × (w.vocabulary ≡ v) × (bytes ≡ network_bytes w)
+    → (w : Network) × (p ≡ Wired w) × (length w.switches ≡ h.rows) × (w.vocabulary ≡ v) × (bytes ≡ network_bytes w)
 as_network h v bytes (Actions t) k f = absurd (let z : ◌≡◌ {A = ℕ} 0 1 = let q = f.suits.kind in cc in omega arith)
 as_network h v bytes (Wired w) k f = (w, refl, f.suits.rows, f.suits.words, f.same)

@@ -3,12 +3,8 @@
 use Rattle.std.proofs.Common.{◌≡◌, ℕ, ◌+◌, ◌*◌, ◌≤◌, true, eqb, leb, List, [], ◌∷◌, ◌++◌, map, length, get_or, take, drop, Ok, Err, Result, sym, refl, ap, ◌∙◌, subst, ⊎_elim, arith, length-append, take-append-drop}
 use denote.Struct.Record.{values_one}
 use Rattle.books.proofs.Sound.{same_chart, same_formula_table}
-use Rattle.books.specs.Charts.{line_list}
-use Rattle.books.specs.declared.chart.Chart.{Chart}
-use Rattle.books.specs.declared.formula.FormulaTable.{FormulaTable}
 use Rattle.books.specs.Lines.{line_bytes}
 use Rattle.books.specs.Nodes.{node_bytes, node_proper}
-use Rattle.books.specs.Tables.{node_list}
 use Rattle.codec.proofs.Coding.{length_joined}
 use Rattle.model.proofs.Goals.{same_goal}
 use Rattle.model.proofs.Pictures.{members_few, same_picture}
@@ -18,18 +14,14 @@ use Rattle.model.specs.declared.picture.Picture.{Picture}
 use Rattle.model.specs.declared.vocabulary.Arity.{Arity}
 use Rattle.model.specs.declared.vocabulary.Vocabulary.{Vocabulary}
 use Rattle.model.specs.Facts.{arity_byte}
-use Rattle.model.specs.Goals.{goal_list}
 use Rattle.model.specs.Literals.{literal_bytes, word_bytes}
 use Rattle.model.specs.Pictures.{members}
-use Rattle.model.specs.Vocabularies.{arity_list}
 use Rattle.plants.proofs.Same.{same_actions, same_network}
 use Rattle.plants.proofs.Sound.{network_sound}
-use Rattle.plants.specs.Actions.{operator_list}
 use Rattle.plants.specs.declared.operator.Operator.{Operator}
-use Rattle.plants.specs.Networks.{switch_list}
 use Rattle.plants.specs.Operators.{operator_bytes}
 use Rattle.plants.specs.Switches.{switch_bytes}
-use Rattle.std.proofs.lemmas.List.{append_assoc, append-nil, drop_at, drop-drop, get_or-take, length-take, length-take-le, take_all, take_at}
+use Rattle.std.proofs.lemmas.List.{append_assoc, append-nil, drop_at, drop-drop, get_or-take, length-take, take_all, take_at}
 use Rattle.std.proofs.lemmas.Bool.{and_from, cases_lt, eq-eqb, le-leb}
 use Rattle.std.specs.List.{flat_map}
 use Rattle.feeder.specs.contracts.header.Header as header
@@ -54,36 +46,22 @@ use Rattle.feeder.proofs.Books.{lines_known, node_size, nodes_known, nodes_prope
 use Rattle.feeder.proofs.Checks.{same_refusal}
 use Rattle.feeder.proofs.Cuts.{cut, cut_last, length_part}
 use Rattle.feeder.proofs.Known.{arity_known, header_one, literals_known, word_known, words_list_known, words_one}
-use Rattle.feeder.proofs.Plants.{feeds_back, length_operators, length_switch_bytes, length_switches, operators_hold, switches_front, switches_known}
+use Rattle.feeder.proofs.Plants.{feeds_back, length_switch_bytes, operators_hold, switches_front, switches_known}
 use Rattle.feeder.proofs.Shapes.{begins, operators_known}
 
 -- how long the parts of a feeder's record are
-length_arities : (v : Vocabulary) → length (arity_list v) ≡ v.predicates
-length_arities v = length-take-le v.predicates v.arities (omega (arith, v.places, v.few))
-
-pub words_long : (v : Vocabulary) → length (arity_bytes v) ≡ v.predicates
-words_long v =
-    length_joined (λ a. arity_byte a ∷ []) (λ _. true) 1 (λ a. refl) (arity_list v) ∙ omega (arith, length_arities v)
+pub words_long : (v : Vocabulary) → length (arity_bytes v) ≡ length v.arities
+words_long v = length_joined (λ a. arity_byte a ∷ []) (λ _. true) 1 (λ a. refl) v.arities ∙ omega arith
 
 pub first_long : (p : Picture) → length (picture_bytes p) ≡ 2 * length (members p)
 first_long p = length_joined word_bytes (λ _. true) 2 (λ n. refl) (members p)
 
-length_goal : (g : Goal) → length (goal_list g) ≡ g.count
-length_goal g = length-take-le g.count g.literals (omega (arith, g.places, g.few))
-
-pub goal_long : (g : Goal) → length (goal_bytes g) ≡ 3 * g.count
-goal_long g =
-    length_joined literal_bytes (λ _. true) 3 (λ l. refl) (goal_list g) ∙ ap (λ (n : ℕ). 3 * n) (length_goal g)
-
-length_nodes : (t : FormulaTable) → length (node_list t) ≡ t.count
-length_nodes t = length-take-le t.count t.nodes (omega (arith, t.places, t.few))
-
-length_lines : (t : Chart) → length (line_list t) ≡ t.count
-length_lines t = length-take-le t.count t.lines (omega (arith, t.places, t.few))
+pub goal_long : (g : Goal) → length (goal_bytes g) ≡ 3 * length g.literals
+goal_long g = length_joined literal_bytes (λ _. true) 3 (λ l. refl) g.literals
 
 pub rules_long : (r : RuleTable) → length (rule_bytes r) ≡ rules_size (rule_kind r) (rule_rows r)
-rules_long (Formula t) = length_joined node_bytes node_proper 4 node_size (node_list t) ∙ ap (λ (n : ℕ). 4 * n) (length_nodes t)
-rules_long (Drawn t) = length_joined line_bytes (λ _. true) 5 (λ l. refl) (line_list t) ∙ ap (λ (n : ℕ). 5 * n) (length_lines t)
+rules_long (Formula t) = length_joined node_bytes node_proper 4 node_size t.nodes
+rules_long (Drawn t) = length_joined line_bytes (λ _. true) 5 (λ l. refl) t.lines
 
 operators_long : (ops : List Operator) (rest : List ℕ) → operators_size (length ops) (flat_map operator_bytes ops ++ rest) ≡ length (flat_map operator_bytes ops)
 unfolding operators_size
@@ -103,15 +81,8 @@ operators_long (op ∷ ops) rest =
 
 -- the size of a plant's table, as its header and its bytes call for it
 pub plant_long : (p : PlantTable) (rest : List ℕ) → plant_size (plant_kind p) (plant_rows p) (plant_bytes p ++ rest) ≡ length (plant_bytes p)
-plant_long (Actions t) rest =
-    ap (λ (n : ℕ). operators_size n (flat_map operator_bytes (operator_list t) ++ rest)) (sym (length_operators t)) ∙ operators_long (operator_list t) rest
-plant_long (Wired w) rest =
-    omega (
-      arith,
-      length-append (flat_map switch_bytes (switch_list w)) (word_bytes w.fed),
-      length_switch_bytes (switch_list w),
-      length_switches w,
-    )
+plant_long (Actions t) rest = operators_long t.operators rest
+plant_long (Wired w) rest = omega (arith, length-append (flat_map switch_bytes w.switches) (word_bytes w.fed), length_switch_bytes w.switches)
 
 -- a part and what stands behind it
 next_part : (at size next : ℕ) (bytes x y : List ℕ) → drop at bytes ≡ x ++ y → length x ≡ size → next ≡ at + size
@@ -134,15 +105,15 @@ arity_codes (x ∷ xs) (y ∷ ys) e =
 
 pub code_known : (v w : Vocabulary) → word_code v ≡ word_code w → v ≡ w
 code_known v w e =
-    same_vocabulary v w (ap (λ (t : List ℕ). get_or t 0 0) e) (arity_codes (arity_list v) (arity_list w) (ap (λ (t : List ℕ). drop 1 t) e))
+    same_vocabulary v w (ap (λ (t : List ℕ). get_or t 0 0) e) (arity_codes v.arities w.arities (ap (λ (t : List ℕ). drop 1 t) e))
 
 -- the header of a feeder is within its limits
 plant_limits : (f : Feeder) (p : PlantTable) → f.plant ≡ p → plant_fits (plant_kind p) (header_of f) ≡ true
 plant_limits f (Actions t) e = le-leb _ 16 (omega (arith, ap plant_rows e, t.few))
 plant_limits f (Wired w) e =
-    let n : w.vocabulary.predicates ≡ 3 = sym (length_arities w.vocabulary) ∙ ap length (network_sound w).unary in
-    and_from (eqb (plant_words f.plant).predicates 3) (leb (plant_rows f.plant) (plant_words f.plant).objects)
-    (eq-eqb _ 3 (ap (λ (p : PlantTable). (plant_words p).predicates) e ∙ n))
+    let n : length w.vocabulary.arities ≡ 3 = ap length (network_sound w).unary in
+    and_from (eqb (length (plant_words f.plant).arities) 3) (leb (plant_rows f.plant) (plant_words f.plant).objects)
+    (eq-eqb _ 3 (ap (λ (p : PlantTable). length (plant_words p).arities) e ∙ n))
     (le-leb _ _ (omega (arith, ap plant_rows e, ap (λ (p : PlantTable). (plant_words p).objects) e, w.few)))
 
 book_limits : (f : Feeder) (r : RuleTable) → f.rules ≡ r → book_fits (rule_kind r) (header_of f) ≡ true
@@ -156,9 +127,9 @@ counts_limits f =
     let v = plant_words f.plant in
     and_from (leb 1 v.objects) _ (le-leb 1 _ v.low)
     (and_from (leb v.objects 16) _ (le-leb _ 16 v.high)
-    (and_from (leb 1 v.predicates) _ (le-leb 1 _ v.some)
-    (and_from (leb v.predicates 16) _ (le-leb _ 16 v.few)
-    (and_from (leb f.goal.count 64) _ (le-leb _ 64 f.goal.few)
+    (and_from (leb 1 (length v.arities)) _ (le-leb 1 _ v.some)
+    (and_from (leb (length v.arities) 16) _ (le-leb _ 16 v.few)
+    (and_from (leb (length f.goal.literals) 64) _ (le-leb _ 64 f.goal.few)
     (and_from (leb f.limit 24) _ (le-leb _ 24 f.short) (le-leb _ 512 (members_few f.first)))))))
 
 pub limits : (f : Feeder) → within_limits (header_of f) ≡ true
@@ -166,9 +137,9 @@ limits f =
     and_from (counts_fit (header_of f)) _ (counts_limits f)
     (and_from (plant_fits (plant_kind f.plant) (header_of f)) _ (plant_limits f f.plant refl) (book_limits f f.rules refl))
 
-kind_words : (p : PlantTable) → KindWords (plant_kind p) (arity_list (plant_words p))
-kind_words (Actions t) = tt
-kind_words (Wired w) = (network_sound w).unary
+kind_words : (p : PlantTable) → KindWords (plant_kind p) (plant_words p).arities
+kind_words (Actions t) = λ e. absurd (let z : ◌≡◌ {A = ℕ} 0 1 = cc in omega arith)
+kind_words (Wired w) = λ e. (network_sound w).unary
 
 -- the bytes have the parts of a feeder in their places
 pub record Whole (bytes : List ℕ) (f : Feeder) : Type 0 where
@@ -241,26 +212,26 @@ whole_passes bytes f w refusal.Rules = (header_of f, plant_words f.plant, f.rule
 plant_one : (bytes : List ℕ) (h : Header) (v : Vocabulary) (p q : PlantTable) → HasPlant bytes h v p → HasPlant bytes h v q → p ≡ q
 plant_one bytes h v (Actions s) (Actions t) x y =
     ap Actions (same_actions s t (x.suits.words ∙ sym y.suits.words)
-    (operators_known (operator_list s) (operator_list t) []
-    (length_operators s ∙ x.suits.rows ∙ sym y.suits.rows ∙ sym (length_operators t)) (operators_hold s) (operators_hold t)
-    (append-nil (flat_map operator_bytes (operator_list s)) ∙ sym x.same ∙ y.same)).0)
+    (operators_known s.operators t.operators []
+    (x.suits.rows ∙ sym y.suits.rows) (operators_hold s) (operators_hold t)
+    (append-nil (flat_map operator_bytes s.operators) ∙ sym x.same ∙ y.same)).0)
 plant_one bytes h v (Actions s) (Wired w) x y = absurd (let z : ◌≡◌ {A = ℕ} 0 1 = let a = x.suits.kind in let b = y.suits.kind in cc in omega arith)
 plant_one bytes h v (Wired u) (Actions t) x y = absurd (let z : ◌≡◌ {A = ℕ} 0 1 = let a = x.suits.kind in let b = y.suits.kind in cc in omega arith)
 plant_one bytes h v (Wired u) (Wired w) x y =
-    let at : ℕ = 2 * u.count in
-    let n : at ≡ 2 * w.count = ap (λ (k : ℕ). 2 * k) (x.suits.rows ∙ sym y.suits.rows) in
+    let at : ℕ = 2 * length u.switches in
+    let n : at ≡ 2 * length w.switches = ap (λ (k : ℕ). 2 * k) (x.suits.rows ∙ sym y.suits.rows) in
     ap Wired (same_network u w (x.suits.words ∙ sym y.suits.words)
-    (switches_known (switch_list u) (switch_list w) (sym (switches_front u _ at x.same refl) ∙ switches_front w _ at y.same n))
+    (switches_known u.switches w.switches (sym (switches_front u _ at x.same refl) ∙ switches_front w _ at y.same n))
     (word_known u.fed w.fed (sym (feeds_back u _ at x.same refl) ∙ feeds_back w _ at y.same n)))
 
 rules_one : (bytes : List ℕ) (h : Header) (v : Vocabulary) (r s : RuleTable) → HasRules bytes h v r → HasRules bytes h v s → r ≡ s
 rules_one bytes h v (Formula s) (Formula t) x y =
     ap Formula (same_formula_table s t (x.suits.words ∙ sym y.suits.words)
-    (nodes_known (node_list s) (node_list t) (nodes_proper s) (nodes_proper t) (sym x.same ∙ y.same)))
+    (nodes_known s.nodes t.nodes (nodes_proper s) (nodes_proper t) (sym x.same ∙ y.same)))
 rules_one bytes h v (Formula s) (Drawn t) x y = absurd (let z : ◌≡◌ {A = ℕ} 0 1 = let a = x.suits.kind in let b = y.suits.kind in cc in omega arith)
 rules_one bytes h v (Drawn s) (Formula t) x y = absurd (let z : ◌≡◌ {A = ℕ} 0 1 = let a = x.suits.kind in let b = y.suits.kind in cc in omega arith)
 rules_one bytes h v (Drawn s) (Drawn t) x y =
-    ap Drawn (same_chart s t (x.suits.words ∙ sym y.suits.words) (lines_known (line_list s) (line_list t) (sym x.same ∙ y.same)))
+    ap Drawn (same_chart s t (x.suits.words ∙ sym y.suits.words) (lines_known s.lines t.lines (sym x.same ∙ y.same)))
 
 pub whole_one : (bytes : List ℕ) (f g : Feeder) → Whole bytes f → Whole bytes g → f ≡ g
 whole_one bytes f g x y =
@@ -280,7 +251,7 @@ whole_one bytes f g x y =
     in
     let o : f.goal ≡ g.goal =
     same_goal f.goal g.goal
-    (literals_known (goal_list f.goal) (goal_list g.goal)
+    (literals_known f.goal.literals g.goal.literals
     (sym x.goal.same ∙ ap (λ (k : Header). take (3 * k.goal) (drop (goal_at k bytes) bytes)) e ∙ y.goal.same))
     in
     let r = rules_one bytes h v f.rules g.rules
@@ -306,13 +277,13 @@ unfolding encode
 record_of bytes h v f head total words plant first goal rules limit =
     let p = f.plant in
     let u : plant_words p ≡ v = plant.suits.words in
-    let predicates : v.predicates ≡ h.predicates =
+    let predicates : length v.arities ≡ h.predicates =
     sym (words_long v) ∙ ap length (sym words.same) ∙ length_part 11 h.predicates bytes (omega arith)
     in
     let firsts : 2 * length (members f.first) ≡ 2 * h.first =
     sym (first_long f.first) ∙ ap length (sym first.same) ∙ length_part (facts_at h bytes) (2 * h.first) bytes (omega arith)
     in
-    let goals : 3 * f.goal.count ≡ 3 * h.goal =
+    let goals : 3 * length f.goal.literals ≡ 3 * h.goal =
     sym (goal_long f.goal) ∙ ap length (sym goal.same) ∙ length_part (goal_at h bytes) (3 * h.goal) bytes (omega arith)
     in
     let sizes : rules_size h.book (rule_rows f.rules) ≡ rules_size h.book h.rules =
@@ -323,7 +294,7 @@ record_of bytes h v f head total words plant first goal rules limit =
     in
     let same : header_of f ≡ h =
     header_same (header_of f) h plant.suits.kind (ap (λ (w : Vocabulary). w.objects) u ∙ words.suits.objects)
-    (ap (λ (w : Vocabulary). w.predicates) u ∙ predicates) plant.suits.rows rules.suits.kind
+    (ap (λ (w : Vocabulary). length w.arities) u ∙ predicates) plant.suits.rows rules.suits.kind
     (rules_count h.book (rule_rows f.rules) h.rules sizes) (omega arith) limit (omega arith)
     in
     sym (take-append-drop 11 bytes)

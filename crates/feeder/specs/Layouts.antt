@@ -11,6 +11,11 @@ use Rattle.feeder.specs.declared.layout.Layout.{Layout}
 abbrev pub operator_size : List ℕ → ℕ
 operator_size rest = 3 + 4 * (slice_index rest 1 + slice_index rest 2)
 
+-- what asking for that size answers: the size, or none where there are too few bytes to tell
+abbrev pub OperatorSized : List ℕ → Option ℕ → Type 0
+OperatorSized bytes (Some n) = (3 ≤ length bytes) × (n ≡ operator_size bytes) × (n ≤ 2043)
+OperatorSized bytes None = length bytes < 3
+
 -- the bytes of n operators, one after another
 unfoldable pub operators_size : ℕ → List ℕ → ℕ
 operators_size zero rest = 0

@@ -1,23 +1,17 @@
--- Operators in a record: which of them a record can hold.
-use Rattle.std.specs.Prelude.{◌≡◌, ℕ, ◌+◌, Bool, true, List, Some, None, Option, ◌≢◌}
-use Rattle.codec.specs.Codes.{every}
+-- Operators in a record: which of them a record can hold, and what reading some of them answers.
+use Rattle.std.specs.Prelude.{◌≡◌, ℕ, ◌≤◌, Bool, true, List, length, Some, None, Option, ◌≢◌}
+use Rattle.std.specs.List.{flat_map, list_all}
 use Rattle.plants.specs.declared.operator.Operator.{Operator}
-use Rattle.plants.specs.Lifted.{lifted_bytes, lifted_proper}
-use Rattle.plants.specs.Operators.{operator_literals}
-use Rattle.std.specs.List.{flat_map}
+use Rattle.plants.specs.Lifted.{lifted_proper}
+use Rattle.plants.specs.Operators.{operator_bytes, operator_literals}
 
 -- the operators that a record can hold: their literals are ones that it can hold
 abbrev pub operator_holds : Operator → Bool
-operator_holds op = every lifted_proper (operator_literals op)
+operator_holds op = list_all lifted_proper (operator_literals op)
 
--- what reading an operator's literals answers: the operator with these counts and literals, or none where there is none
-abbrev pub OperatorRead : ℕ → ℕ → ℕ → List ℕ → Option Operator → Type 0
-OperatorRead parameters preconditions count bytes (Some op) =
-    (op.parameters ≡ parameters)
-    × (op.preconditions ≡ preconditions)
-    × (op.preconditions + op.effects ≡ count)
-    × (flat_map lifted_bytes (operator_literals op) ≡ bytes)
-    × (operator_holds op ≡ true)
-OperatorRead parameters preconditions count bytes None =
-    (op : Operator) → op.parameters ≡ parameters → op.preconditions ≡ preconditions → op.preconditions + op.effects ≡ count
-    → flat_map lifted_bytes (operator_literals op) ≡ bytes → operator_holds op ≢ true
+-- what reading so many operators answers: operators that a record can hold, whose joined bytes these are, or none where
+-- the bytes are those of no such operators, of which there are at most 16
+abbrev pub OperatorsRead : ℕ → List ℕ → Option (List Operator) → Type 0
+OperatorsRead rows bytes (Some ops) = (length ops ≡ rows) × (flat_map operator_bytes ops ≡ bytes) × (list_all operator_holds ops ≡ true)
+OperatorsRead rows bytes None =
+    (ops : List Operator) → length ops ≡ rows → length ops ≤ 16 → list_all operator_holds ops ≡ true → flat_map operator_bytes ops ≢ bytes

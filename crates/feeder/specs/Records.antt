@@ -1,10 +1,8 @@
 -- Records: the bytes of a feeder.
 use Rattle.std.specs.Prelude.{ℕ, List, [], ◌∷◌, ◌++◌, length}
-use Rattle.model.specs.Goals.{goal_list}
 use Rattle.model.specs.Literals.{literal_bytes, word_bytes}
 use Rattle.model.specs.Pictures.{members}
 use Rattle.model.specs.Facts.{arity_byte}
-use Rattle.model.specs.Vocabularies.{arity_list}
 use Rattle.model.specs.declared.goal.Goal.{Goal}
 use Rattle.model.specs.declared.picture.Picture.{Picture}
 use Rattle.model.specs.declared.vocabulary.Vocabulary.{Vocabulary}
@@ -19,18 +17,18 @@ abbrev pub header_of : Feeder → Header
 header_of f = record {
   plant = plant_kind f.plant;
   objects = (plant_words f.plant).objects;
-  predicates = (plant_words f.plant).predicates;
+  predicates = length (plant_words f.plant).arities;
   rows = plant_rows f.plant;
   book = rule_kind f.rules;
   rules = rule_rows f.rules;
-  goal = f.goal.count;
+  goal = length f.goal.literals;
   limit = f.limit;
   first = length (members f.first);
 }
 
 -- the arity of each predicate
 abbrev pub arity_bytes : Vocabulary → List ℕ
-arity_bytes v = flat_map (λ a. arity_byte a ∷ []) (arity_list v)
+arity_bytes v = flat_map (λ a. arity_byte a ∷ []) v.arities
 
 -- the facts of a picture, ascending
 abbrev pub picture_bytes : Picture → List ℕ
@@ -38,7 +36,7 @@ picture_bytes p = flat_map word_bytes (members p)
 
 -- the literals of a goal, by ascending fact
 abbrev pub goal_bytes : Goal → List ℕ
-goal_bytes g = flat_map literal_bytes (goal_list g)
+goal_bytes g = flat_map literal_bytes g.literals
 
 -- the record of a feeder: its header, arities, plant, first facts, goal and rules, in this order
 unfoldable pub encode : Feeder → List ℕ

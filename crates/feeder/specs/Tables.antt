@@ -1,13 +1,10 @@
 -- Tables: the kind, size, vocabulary and bytes of a feeder's plant and rules.
-use Rattle.std.specs.Prelude.{ℕ, ◌+◌, Bool, ◌&&◌, ◌||◌, List, ◌∷◌, map, nat_le, nat_lt}
-use Rattle.books.specs.Charts.{line_list}
+use Rattle.std.specs.Prelude.{ℕ, ◌+◌, Bool, ◌&&◌, ◌||◌, List, ◌∷◌, map, length, nat_le, nat_lt}
 use Rattle.books.specs.Lines.{line_bytes}
 use Rattle.books.specs.Nodes.{node_bytes}
-use Rattle.books.specs.Tables.{node_list}
 use Rattle.model.specs.declared.fact.Literal.{Literal}
 use Rattle.model.specs.declared.vocabulary.Vocabulary.{Vocabulary}
 use Rattle.model.specs.Facts.{arity_byte}
-use Rattle.model.specs.Vocabularies.{arity_list}
 use Rattle.plants.specs.Actions.{action_bytes}
 use Rattle.plants.specs.Networks.{network_bytes}
 use Rattle.std.specs.List.{flat_map}
@@ -27,8 +24,8 @@ plant_kind (Network w) = plant.Network
 
 -- how many operators or switches a plant has
 abbrev pub plant_rows : PlantTable → ℕ
-plant_rows (Actions t) = t.count
-plant_rows (Network w) = w.count
+plant_rows (Actions t) = length t.operators
+plant_rows (Network w) = length w.switches
 
 -- the objects and predicates of a plant
 abbrev pub plant_words : PlantTable → Vocabulary
@@ -47,8 +44,8 @@ rule_kind (Chart c) = book.Chart
 
 -- how many nodes or lines the rules have
 abbrev pub rule_rows : RuleTable → ℕ
-rule_rows (Formula t) = t.count
-rule_rows (Chart c) = c.count
+rule_rows (Formula t) = length t.nodes
+rule_rows (Chart c) = length c.lines
 
 -- the objects and predicates that the rules speak of
 abbrev pub rule_words : RuleTable → Vocabulary
@@ -57,12 +54,12 @@ rule_words (Chart c) = c.vocabulary
 
 -- the rules' bytes
 abbrev pub rule_bytes : RuleTable → List ℕ
-rule_bytes (Formula t) = flat_map node_bytes (node_list t)
-rule_bytes (Chart c) = flat_map line_bytes (line_list c)
+rule_bytes (Formula t) = flat_map node_bytes t.nodes
+rule_bytes (Chart c) = flat_map line_bytes c.lines
 
 -- a vocabulary as numbers: how many objects, then the arities
 abbrev pub word_code : Vocabulary → List ℕ
-word_code v = v.objects ∷ map arity_byte (arity_list v)
+word_code v = v.objects ∷ map arity_byte v.arities
 
 -- which facts may be first facts: all of an action table; of a network the positions of its switches and the earths
 abbrev pub may_be_first : PlantKind → ℕ → ℕ → ℕ → ℕ → Bool

@@ -1,13 +1,12 @@
 -- Verdicts: the nine checks of a record, and which answer each string of bytes gets.
-use Rattle.std.specs.Prelude.{◌≡◌, ℕ, ◌*◌, ◌<◌, ◌≤◌, Bool, true, false, List, length, take, drop, Some, None, Ok, Err, Option, Result, slice_index}
-use Rattle.codec.specs.Codes.{every}
+use Rattle.std.specs.Prelude.{◌≡◌, ℕ, ◌*◌, ◌<◌, ◌≤◌, true, List, length, take, drop, Some, None, Ok, Err, Option, Result, slice_index}
+use Rattle.std.specs.List.{list_all}
 use Rattle.model.specs.declared.goal.Goal.{Goal}
 use Rattle.model.specs.declared.picture.Picture.{Picture}
 use Rattle.model.specs.declared.vocabulary.Arity.{Arity}
 use Rattle.model.specs.declared.vocabulary.Vocabulary.{Vocabulary}
-use Rattle.model.specs.Goals.{goal_list}
 use Rattle.model.specs.Pictures.{members}
-use Rattle.model.specs.Vocabularies.{arity_list, fact_total}
+use Rattle.model.specs.Vocabularies.{fact_total}
 use Rattle.plants.specs.Switches.{network_arities}
 use Rattle.feeder.specs.declared.header.Header.{Header}
 use Rattle.feeder.specs.declared.header.PlantKind.{PlantKind}
@@ -54,13 +53,12 @@ SuitHeader h = within_limits h ≡ true
 
 -- a network's predicates are three of one object each
 abbrev pub KindWords : PlantKind → List Arity → Type 0
-KindWords plant.Actions arities = Unit {0}
-KindWords plant.Network arities = arities ≡ network_arities
+KindWords kind arities = kind ≡ plant.Network → arities ≡ network_arities
 
 -- a vocabulary of the header's objects, with the predicates that the plant's kind needs
 pub record SuitWords (h : Header) (v : Vocabulary) : Type 0 where
   pub objects : v.objects ≡ h.objects
-  pub kind : KindWords h.plant (arity_list v)
+  pub kind : KindWords h.plant v.arities
 
 -- a plant of the header's kind and size, over the vocabulary
 pub record SuitPlant (h : Header) (v : Vocabulary) (p : PlantTable) : Type 0 where
@@ -70,11 +68,11 @@ pub record SuitPlant (h : Header) (v : Vocabulary) (p : PlantTable) : Type 0 whe
 
 -- a picture whose facts may all be first facts
 abbrev pub SuitFirst : Header → Vocabulary → Picture → Type 0
-SuitFirst h v p = every (may_be_first h.plant (fact_total v) h.objects h.rows) (members p) ≡ true
+SuitFirst h v p = list_all (may_be_first h.plant (fact_total v) h.objects h.rows) (members p) ≡ true
 
 -- a goal on facts of the vocabulary
 abbrev pub SuitGoal : Vocabulary → Goal → Type 0
-SuitGoal v g = every (fact_below (fact_total v)) (goal_list g) ≡ true
+SuitGoal v g = list_all (fact_below (fact_total v)) g.literals ≡ true
 
 -- rules of the header's kind, over the vocabulary
 pub record SuitRules (h : Header) (v : Vocabulary) (r : RuleTable) : Type 0 where
@@ -151,8 +149,3 @@ PartRead {A} Suits code bytes None = (x : A) → Found Suits code bytes x → �
 abbrev pub Step : {A : Type 0} → List ℕ → (A → Type 0) → ℕ → Result A ReadRefusal → Type 0
 Step bytes Has k (Ok x) = Has x × Passed k bytes
 Step bytes Has k (Err e) = Refused e bytes
-
--- what a test tells of a statement
-abbrev pub Tells : Bool → Type 0 → Type 0
-Tells true P = P
-Tells false P = P → ⊥

@@ -1,72 +1,81 @@
-ghost use Rattle.std.specs.Prelude.{◌≡◌, true};
-ghost use Rattle.codec.specs.Codes.{FromByte};
+ghost use Rattle.std.specs.Prelude.{◌≡◌, true, [], ◌∷◌};
 ghost use Rattle.feeder.specs.Headers.{book_byte, book_fits, counts_fit, header_bytes, plant_byte, plant_fits, within_limits};
 ghost use Rattle.std.proofs.Common.{rules};
 
 use codec::coded::Coded;
 
 // What kind of plant a record describes.
-#[derive(Clone, Copy)]
+// A type apart from the kinds of rule books, so that no book can stand for a plant.
+#[derive(Debug, Clone, Copy, PartialEq, Eq)]
 pub enum PlantKind {
     Actions,
     Network,
 }
 
-impl PlantKind {
-    // Its byte in a record.
-    pub fn to_byte(self) -> u8
-        ensures { result ≡ plant_byte self }
-    {
-        match self {
-            PlantKind::Actions => 1,
-            PlantKind::Network => 2,
-        }
-    }
-
-    // The kind that a byte stands for, if any.
-    pub fn from_byte(byte: u8) -> Option<PlantKind>
-        ensures { FromByte plant_byte (λ _. true) byte result }
-    {
-        match byte {
-            1 => Some(PlantKind::Actions),
-            2 => Some(PlantKind::Network),
-            _ => None,
-        }
-    }
-}
-
 // What kind of rule book a record holds.
-#[derive(Clone, Copy)]
+// A type apart from the kinds of plants, so that no plant can stand for a book.
+#[derive(Debug, Clone, Copy, PartialEq, Eq)]
 pub enum BookKind {
     Formula,
     Chart,
 }
 
-impl BookKind {
-    // Its byte in a record.
-    pub fn to_byte(self) -> u8
-        ensures { result ≡ book_byte self }
-    {
-        match self {
-            BookKind::Formula => 1,
-            BookKind::Chart => 2,
+impl Coded<1> for PlantKind {
+    ghost code = { λ k. plant_byte k ∷ [] };
+
+    ghost proper = { λ _. true };
+
+    ghost narrow = { Prim.search rules };
+
+    ghost fixed = { Prim.search rules };
+
+    ghost one = { Prim.search rules };
+
+    fn decode(bytes: &[u8; 1]) -> Option<PlantKind> {
+        match *bytes {
+            [1] => Some(PlantKind::Actions),
+            [2] => Some(PlantKind::Network),
+            _ => None,
         }
     }
 
-    // The kind that a byte stands for, if any.
-    pub fn from_byte(byte: u8) -> Option<BookKind>
-        ensures { FromByte book_byte (λ _. true) byte result }
-    {
-        match byte {
-            1 => Some(BookKind::Formula),
-            2 => Some(BookKind::Chart),
+    fn encode(&self) -> [u8; 1] {
+        match *self {
+            PlantKind::Actions => [1],
+            PlantKind::Network => [2],
+        }
+    }
+}
+
+impl Coded<1> for BookKind {
+    ghost code = { λ k. book_byte k ∷ [] };
+
+    ghost proper = { λ _. true };
+
+    ghost narrow = { Prim.search rules };
+
+    ghost fixed = { Prim.search rules };
+
+    ghost one = { Prim.search rules };
+
+    fn decode(bytes: &[u8; 1]) -> Option<BookKind> {
+        match *bytes {
+            [1] => Some(BookKind::Formula),
+            [2] => Some(BookKind::Chart),
             _ => None,
+        }
+    }
+
+    fn encode(&self) -> [u8; 1] {
+        match *self {
+            BookKind::Formula => [1],
+            BookKind::Chart => [2],
         }
     }
 }
 
 // The first eleven bytes of a record: kinds, counts and the limit.
-#[derive(Clone, Copy)]
+#[derive(Debug, Clone, Copy, PartialEq, Eq)]
 pub struct Header {
     pub plant: PlantKind,
     pub objects: u8,
@@ -101,6 +110,7 @@ impl Header {
             && self.first <= 512
     }
 
+    // Whether the counts suit the kind of plant; each kind has limits of its own.
     fn plant_fits(&self) -> bool
         ensures { result ≡ plant_fits self.now.plant self.now }
     {
@@ -110,6 +120,7 @@ impl Header {
         }
     }
 
+    // Whether the count of rules suits the kind of rule book; each kind has limits of its own.
     fn book_fits(&self) -> bool
         ensures { result ≡ book_fits self.now.book self.now }
     {
@@ -120,59 +131,64 @@ impl Header {
     }
 }
 
-impl Coded for Header {
+impl Coded<11> for Header {
     ghost code = { header_bytes };
 
     ghost proper = { within_limits };
 
-    ghost size = { 11 };
+    ghost narrow = { Prim.search rules };
 
     ghost fixed = { Prim.search rules };
 
     ghost one = { Prim.search rules };
 
-    fn width() -> usize {
-        11
-    }
-
-    fn decode(bytes: &[u8]) -> Option<Header> {
-        if bytes.len() != 11 || bytes[0] != 1 {
+    fn decode(bytes: &[u8; 11]) -> Option<Header> {
+        let [
+            version,
+            plant,
+            objects,
+            predicates,
+            rows,
+            book,
+            rules,
+            goal,
+            limit,
+            high,
+            low,
+        ] = *bytes;
+        if version != 1 {
             return None;
         }
-        let plant = PlantKind::from_byte(bytes[1])?;
-        let book = BookKind::from_byte(bytes[5])?;
         let header = Header {
-            plant,
-            objects: bytes[2],
-            predicates: bytes[3],
-            rows: bytes[4],
-            book,
-            rules: bytes[6],
-            goal: bytes[7],
-            limit: bytes[8],
-            first: bytes[9] as u16 * 256 + bytes[10] as u16,
+            plant: PlantKind::decode(&[plant])?,
+            objects,
+            predicates,
+            rows,
+            book: BookKind::decode(&[book])?,
+            rules,
+            goal,
+            limit,
+            first: u16::from_be_bytes([high, low]),
         };
-        if header.is_within_limits() {
-            Some(header)
-        } else {
-            None
-        }
+        header.is_within_limits().then_some(header)
     }
 
-    fn byte(&self, k: usize) -> u8 {
-        match k {
-            0 => 1,
-            1 => self.plant.to_byte(),
-            2 => self.objects,
-            3 => self.predicates,
-            4 => self.rows,
-            5 => self.book.to_byte(),
-            6 => self.rules,
-            7 => self.goal,
-            8 => self.limit,
-            9 => (self.first / 256) as u8,
-            10 => (self.first % 256) as u8,
-            _ => 0,
-        }
+    fn encode(&self) -> [u8; 11] {
+        let [plant]: [u8; 1] = self.plant.encode();
+        let [book]: [u8; 1] = self.book.encode();
+        let [high, low] = self.first.to_be_bytes();
+        [
+            1,
+            plant,
+            self.objects,
+            self.predicates,
+            self.rows,
+            book,
+            self.rules,
+            self.goal,
+            self.limit,
+            high,
+            low,
+        ]
     }
 }

@@ -8,6 +8,7 @@ mod operators;
 mod plant;
 mod put;
 pub mod read;
+mod reading;
 pub mod record;
 pub mod refusal;
 mod rules;

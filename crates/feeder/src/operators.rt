@@ -1,75 +1,40 @@
-ghost use Rattle.std.specs.Prelude.{◌≡◌, ◌*◌, ◌++◌, length};
-ghost use Rattle.codec.specs.Codes.{Decoded, ListDecoded};
+ghost use Rattle.codec.specs.Codes.{Decoded};
 ghost use Rattle.plants.specs.Operators.{operator_bytes};
-ghost use Rattle.feeder.specs.Operators.{OperatorRead, operator_holds};
+ghost use Rattle.feeder.specs.Operators.{OperatorsRead, operator_holds};
 
 use crate::layout::operator_bytes;
 use codec::list::decode_list;
-use codec::table::padded;
-use model::fact::Sign;
-use model::term::{Atom, Term};
+use codec::table::Table;
 use plants::literal::LiftedLiteral;
 use plants::operator::Operator;
-
-// The operator with these counts whose literals are these bytes, one for each place.
-fn operator_from(
-    parameters: u8,
-    preconditions: u8,
-    bytes: &[u8],
-    places: &mut [LiftedLiteral],
-) -> Option<Operator>
-    requires { length bytes.now ≡ 4 * length places.old }
-    ensures { OperatorRead parameters preconditions (length places.old) bytes.now result }
-{
-    if !decode_list(bytes, places) {
-        return None;
-    }
-    Operator::new(parameters, preconditions, places)
-}
 
 // The operator that has just these bytes, or none where no operator has them.
 fn operator_of(bytes: &[u8]) -> Option<Operator>
     ensures { Decoded operator_bytes operator_holds bytes.now result }
 {
-    if bytes.len() < 3 {
+    let (head, literals) = bytes.split_first_chunk::<3>()?;
+    let [parameters, before, after] = *head;
+    let (front, back) = literals.split_at_checked(4 * before as usize)?;
+    if back.len() != 4 * after as usize {
         return None;
     }
-    let n = bytes[1] as usize + bytes[2] as usize;
-    if n > 16 || bytes.len() != 3 + 4 * n {
-        return None;
-    }
-    let blank = LiftedLiteral {
-        sign: Sign::Negative,
-        atom: Atom {
-            predicate: 0,
-            first: Term::Object(0),
-            second: Term::Object(0),
-        },
-    };
-    let mut places = padded::<LiftedLiteral, 16>(blank, &[]);
-    operator_from(bytes[0], bytes[1], &bytes[3..], &mut places[0..n])
+    let needs: Table<LiftedLiteral, 8> = decode_list(front)?;
+    let effects: Table<LiftedLiteral, 8> = decode_list(back)?;
+    Operator::new(parameters, needs.as_slice(), effects.as_slice())
 }
 
-// Reads one operator for each place of `items` from bytes that are just theirs.
-// It answers whether there are such operators; where there are none, what `items` holds afterwards is free.
-pub(crate) fn operators_of(bytes: &[u8], items: &mut [Operator]) -> bool
-    ensures { ListDecoded operator_bytes operator_holds bytes.now (length items.old) items.new result }
+// So many operators, at most 16, whose bytes these are, or none where no operators have them.
+// No list of values of one width: where an operator ends shows only in its own head.
+pub(crate) fn operators_of(bytes: &[u8], rows: u8) -> Option<Table<Operator, 16>>
+    ensures { OperatorsRead rows bytes.now result }
 {
+    let mut table = Table::empty();
     let mut rest = bytes;
-    for i in 0..items.len() {
-        if rest.len() < 3 {
-            return false;
-        }
-        let own = operator_bytes(rest);
-        if rest.len() < own {
-            return false;
-        }
-        let (front, back) = rest.split_at(own);
-        match operator_of(front) {
-            Some(op) => items[i] = op,
-            None => return false,
-        }
+    // so many turns, and no chunks: operators differ in width
+    for _ in 0..rows {
+        let (front, back) = rest.split_at_checked(operator_bytes(rest)?)?;
+        table.push(operator_of(front)?)?;
         rest = back;
     }
-    rest.is_empty()
+    rest.is_empty().then_some(table)
 }

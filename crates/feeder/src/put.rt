@@ -1,7 +1,7 @@
-ghost use Rattle.std.specs.Prelude.{◌≡◌, ◌+◌, ◌≤◌, true, length};
-ghost use Rattle.codec.specs.Codes.{every, written};
+ghost use Rattle.std.specs.Prelude.{◌≡◌, true};
+ghost use Rattle.std.specs.List.{flat_map, list_all};
+ghost use Rattle.codec.specs.Writing.{Wrote};
 ghost use Rattle.plants.specs.Operators.{operator_bytes};
-ghost use Rattle.std.specs.List.{flat_map};
 ghost use Rattle.feeder.specs.Headers.{header_bytes, within_limits};
 ghost use Rattle.feeder.specs.Operators.{operator_holds};
 ghost use Rattle.feeder.specs.Records.{arity_bytes, goal_bytes, picture_bytes};
@@ -10,130 +10,86 @@ ghost use Rattle.feeder.specs.Tables.{plant_bytes, rule_bytes};
 use crate::header::Header;
 use crate::tables::{PlantTable, RuleTable};
 use codec::coded::Coded;
-use codec::list::encode_list;
-use model::fact::Fact;
+use codec::writer::Writer;
 use model::goal::Goal;
 use model::picture::Picture;
 use model::vocabulary::Vocabulary;
 use plants::operator::Operator;
 
-// The functions here write one part of a record from place `at` on and answer the place behind it.
-
-// Writes the codes of some values.
-pub(crate) fn put_list<T: Coded>(items: &[T], out: &mut [u8], at: usize) -> usize
-    requires held { every T.Coded.proper items.now ≡ true }
-    requires room { at + length (flat_map T.Coded.code items.now) ≤ length out.old }
-    ensures next { result ≡ at + length (flat_map T.Coded.code items.now) }
-    ensures after { out.new ≡ written out.old at (flat_map T.Coded.code items.now) }
-{
-    let end = at + T::width() * items.len();
-    let _ = encode_list(items, &mut out[at..end]);
-    end
-}
+// The functions here write one part of a record behind what is written. None where there is no room for it.
+// One function for each part, so that each says which bytes of a record it writes.
 
 // Writes a header.
-pub(crate) fn put_header(header: Header, out: &mut [u8], at: usize) -> usize
-    requires held { within_limits header ≡ true }
-    requires room { at + 11 ≤ length out.old }
-    ensures next { result ≡ at + length (header_bytes header) }
-    ensures after { out.new ≡ written out.old at (header_bytes header) }
+pub(crate) fn put_header(header: Header, writer: &mut Writer) -> Option<()>
+    requires { within_limits header ≡ true }
+    ensures { Wrote writer.old (header_bytes header) writer.new result }
 {
-    put_list(&[header], out, at)
+    writer.put(&header.encode())
 }
 
 // Writes the arities of a vocabulary.
-pub(crate) fn put_words(vocabulary: &Vocabulary, out: &mut [u8], at: usize) -> usize
-    requires { at + length (arity_bytes vocabulary.now) ≤ length out.old }
-    ensures next { result ≡ at + length (arity_bytes vocabulary.now) }
-    ensures after { out.new ≡ written out.old at (arity_bytes vocabulary.now) }
+pub(crate) fn put_words(vocabulary: &Vocabulary, writer: &mut Writer) -> Option<()>
+    ensures { Wrote writer.old (arity_bytes vocabulary.now) writer.new result }
 {
-    put_list(
-        &vocabulary.arities[0..vocabulary.predicates as usize],
-        out,
-        at,
-    )
+    writer.put_all(vocabulary.arities.as_slice())
 }
 
 // Writes the facts of a picture.
-pub(crate) fn put_picture(picture: &Picture, out: &mut [u8], at: usize) -> usize
-    requires { at + length (picture_bytes picture.now) ≤ length out.old }
-    ensures next { result ≡ at + length (picture_bytes picture.now) }
-    ensures after { out.new ≡ written out.old at (picture_bytes picture.now) }
+pub(crate) fn put_picture(picture: &Picture, writer: &mut Writer) -> Option<()>
+    ensures { Wrote writer.old (picture_bytes picture.now) writer.new result }
 {
-    let members = picture.members();
-    put_list(&members.facts[0..members.count as usize], out, at)
+    writer.put_all(picture.members().as_slice())
 }
 
 // Writes the literals of a goal.
-pub(crate) fn put_goal(goal: &Goal, out: &mut [u8], at: usize) -> usize
-    requires { at + length (goal_bytes goal.now) ≤ length out.old }
-    ensures next { result ≡ at + length (goal_bytes goal.now) }
-    ensures after { out.new ≡ written out.old at (goal_bytes goal.now) }
+pub(crate) fn put_goal(goal: &Goal, writer: &mut Writer) -> Option<()>
+    ensures { Wrote writer.old (goal_bytes goal.now) writer.new result }
 {
-    put_list(&goal.literals[0..goal.count as usize], out, at)
+    writer.put_all(goal.literals.as_slice())
 }
 
-// Writes an operator: its counts, then its literals.
-fn put_operator(op: &Operator, out: &mut [u8], at: usize) -> usize
-    requires held { operator_holds op.now ≡ true }
-    requires room { at + length (operator_bytes op.now) ≤ length out.old }
-    ensures next { result ≡ at + length (operator_bytes op.now) }
-    ensures after { out.new ≡ written out.old at (operator_bytes op.now) }
+// Writes an operator: its counts, then its preconditions, then its effects.
+// It asks for literals that a record can hold, since a variant of an enum keeps no invariant.
+fn put_operator(op: &Operator, writer: &mut Writer) -> Option<()>
+    requires { operator_holds op.now ≡ true }
+    ensures { Wrote writer.old (operator_bytes op.now) writer.new result }
 {
-    let head = op.head();
-    let next = at + 3;
-    out[at..next].copy_from_slice(&head);
-    let n = (op.preconditions + op.effects) as usize;
-    put_list(&op.literals[0..n], out, next)
+    writer.put(&op.head())?;
+    writer.put_all(op.needs.as_slice())?;
+    writer.put_all(op.effects.as_slice())
 }
 
 // Writes some operators.
-fn put_operators(operators: &[Operator], out: &mut [u8], at: usize) -> usize
-    requires held { every operator_holds operators.now ≡ true }
-    requires room { at + length (flat_map operator_bytes operators.now) ≤ length out.old }
-    ensures next { result ≡ at + length (flat_map operator_bytes operators.now) }
-    ensures after { out.new ≡ written out.old at (flat_map operator_bytes operators.now) }
+// It asks for operators that a record can hold, since a variant of an enum keeps no invariant.
+fn put_operators(operators: &[Operator], writer: &mut Writer) -> Option<()>
+    requires { list_all operator_holds operators.now ≡ true }
+    ensures { Wrote writer.old (flat_map operator_bytes operators.now) writer.new result }
 {
-    let mut next = at;
     for op in operators {
-        next = put_operator(op, out, next);
+        put_operator(op, writer)?;
     }
-    next
+    Some(())
 }
 
 // Writes a plant's table.
-pub(crate) fn put_plant(plant: &PlantTable, out: &mut [u8], at: usize) -> usize
-    requires { at + length (plant_bytes plant.now) ≤ length out.old }
-    ensures next { result ≡ at + length (plant_bytes plant.now) }
-    ensures after { out.new ≡ written out.old at (plant_bytes plant.now) }
+pub(crate) fn put_plant(plant: &PlantTable, writer: &mut Writer) -> Option<()>
+    ensures { Wrote writer.old (plant_bytes plant.now) writer.new result }
 {
     match plant {
-        PlantTable::Actions(table) => put_operators(
-            &table.operators[0..table.count as usize],
-            out,
-            at,
-        ),
+        PlantTable::Actions(table) => put_operators(table.operators.as_slice(), writer),
         PlantTable::Network(network) => {
-            let next = put_list(&network.switches[0..network.count as usize], out, at);
-            put_list(
-                &[Fact {
-                    number: network.fed,
-                }],
-                out,
-                next,
-            )
+            writer.put_all(network.switches.as_slice())?;
+            writer.put(&network.fed.to_be_bytes())
         }
     }
 }
 
 // Writes the rules.
-pub(crate) fn put_rules(rules: &RuleTable, out: &mut [u8], at: usize) -> usize
-    requires { at + length (rule_bytes rules.now) ≤ length out.old }
-    ensures next { result ≡ at + length (rule_bytes rules.now) }
-    ensures after { out.new ≡ written out.old at (rule_bytes rules.now) }
+pub(crate) fn put_rules(rules: &RuleTable, writer: &mut Writer) -> Option<()>
+    ensures { Wrote writer.old (rule_bytes rules.now) writer.new result }
 {
     match rules {
-        RuleTable::Formula(table) => put_list(&table.nodes[0..table.count as usize], out, at),
-        RuleTable::Chart(chart) => put_list(&chart.lines[0..chart.count as usize], out, at),
+        RuleTable::Formula(table) => writer.put_all(table.nodes.as_slice()),
+        RuleTable::Chart(chart) => writer.put_all(chart.lines.as_slice()),
     }
 }

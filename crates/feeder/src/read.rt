@@ -4,11 +4,9 @@ ghost use Rattle.feeder.specs.declared.refusal.ReadRefusal.{ReadRefusal as Reaso
 ghost use Rattle.feeder.specs.Verdicts.{ExactlyOf, Reloaded, Verdict};
 
 use crate::heading::{read_header, read_layout};
-use crate::plant::read_plant;
+use crate::reading::Reading;
 use crate::record::Feeder;
 use crate::refusal::ReadRefusal;
-use crate::rules::read_rules;
-use crate::start::{read_first, read_goal};
 use crate::words::read_words;
 
 // Runs the nine checks in their order.
@@ -18,10 +16,16 @@ fn judge(bytes: &[u8]) -> Result<Feeder, ReadRefusal>
     let header = read_header(bytes)?;
     let layout = read_layout(bytes, &header)?;
     let vocabulary = read_words(bytes, &header)?;
-    let plant = read_plant(bytes, &header, &layout, &vocabulary)?;
-    let first = read_first(bytes, &header, &layout, &vocabulary)?;
-    let goal = read_goal(bytes, &header, &layout, &vocabulary)?;
-    let rules = read_rules(bytes, &header, &layout, &vocabulary)?;
+    let reading = Reading {
+        bytes,
+        header,
+        layout,
+        vocabulary,
+    };
+    let plant = reading.plant()?;
+    let first = reading.first()?;
+    let goal = reading.goal()?;
+    let rules = reading.rules()?;
     Ok(Feeder {
         plant,
         first,
@@ -46,8 +50,13 @@ impl Feeder {
     pub fn reload(&mut self, bytes: &[u8]) -> Result<(), ReadRefusal>
         ensures { Reloaded bytes.now self.old self.new result }
     {
-        let feeder = read(bytes)?;
-        *self = feeder;
-        Ok(())
+        // a match, since the check makes no proof of `?` and an assignment here
+        match read(bytes) {
+            Ok(feeder) => {
+                *self = feeder;
+                Ok(())
+            }
+            Err(refusal) => Err(refusal),
+        }
     }
 }

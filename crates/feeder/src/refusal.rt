@@ -2,7 +2,7 @@ ghost use Rattle.std.specs.Prelude.{◌≡◌};
 ghost use Rattle.feeder.specs.Refusals.{read_number, write_number};
 
 // Why bytes are no feeder record: the first of the nine checks that fails.
-#[derive(Clone, Copy)]
+#[derive(Debug, Clone, Copy, PartialEq, Eq)]
 pub enum ReadRefusal {
     Short,
     Version,
@@ -17,6 +17,7 @@ pub enum ReadRefusal {
 
 impl ReadRefusal {
     // The number of a refusal.
+    // By a match: the numbers are those of docs/REFUSALS.md, and stand here once.
     pub fn number(self) -> u8
         ensures { result ≡ read_number self }
     {
@@ -35,13 +36,15 @@ impl ReadRefusal {
 }
 
 // Why a record is not written: the buffer is too short.
-#[derive(Clone, Copy)]
+// An enum of its own, as each family of calls has: the type of a call says which refusals it gives.
+#[derive(Debug, Clone, Copy, PartialEq, Eq)]
 pub enum WriteRefusal {
     Short,
 }
 
 impl WriteRefusal {
     // The number of a refusal.
+    // By a match: the number is that of docs/REFUSALS.md, and stands here once.
     pub fn number(self) -> u8
         ensures { result ≡ write_number self }
     {

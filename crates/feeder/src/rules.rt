@@ -1,12 +1,10 @@
-ghost use Rattle.std.specs.Prelude.{◌≡◌, ◌*◌, true, length};
+ghost use Rattle.std.specs.Prelude.{◌≡◌};
 ghost use Rattle.feeder.specs.declared.header.BookKind.TheVariants as kind;
-ghost use Rattle.feeder.specs.Headers.{within_limits};
-ghost use Rattle.feeder.specs.Layouts.{LaidOut, rules_size};
 ghost use Rattle.feeder.specs.Tables.{rule_bytes};
-ghost use Rattle.feeder.specs.Verdicts.{HasHeader, HasRules, HasWords, PartRead, Passed, Step, SuitRules};
+ghost use Rattle.feeder.specs.Verdicts.{HasRules, PartRead, Passed, Step, SuitRules};
 
-use crate::header::{BookKind, Header};
-use crate::layout::Layout;
+use crate::header::BookKind;
+use crate::reading::Reading;
 use crate::refusal::ReadRefusal;
 use crate::tables::RuleTable;
 use books::chart::Chart;
@@ -14,83 +12,47 @@ use books::formula::FormulaTable;
 use books::line::Line;
 use books::node::Node;
 use codec::list::decode_list;
-use codec::table::padded;
-use model::vocabulary::Vocabulary;
+use codec::table::Table;
 
-// The formula whose nodes are these bytes, one for each place.
-fn formula_of(
-    header: &Header,
-    vocabulary: &Vocabulary,
-    bytes: &[u8],
-    places: &mut [Node],
-) -> Option<RuleTable>
-    requires kind { header.now.book ≡ kind.Formula }
-    requires size { length bytes.now ≡ 4 * length places.old }
-    ensures { PartRead (SuitRules header.now vocabulary.now) rule_bytes bytes.now result }
-{
-    if !decode_list(bytes, places) {
-        return None;
+// One function for each kind of rules: the record says which, and each builds a table of its own.
+impl Reading<'_> {
+    // The formula whose nodes are these bytes.
+    fn formula_of(&self, bytes: &[u8]) -> Option<RuleTable>
+        requires { self.now.header.book ≡ kind.Formula }
+        ensures { PartRead (SuitRules self.now.header self.now.vocabulary) rule_bytes bytes.now result }
+    {
+        let nodes: Table<Node, 120> = decode_list(bytes)?;
+        let formula = FormulaTable::new(self.vocabulary, nodes.as_slice())?;
+        Some(RuleTable::Formula(formula))
     }
-    match FormulaTable::new(*vocabulary, places) {
-        Some(table) => Some(RuleTable::Formula(table)),
-        None => None,
-    }
-}
 
-// The chart whose lines are these bytes, one for each place.
-fn chart_of(
-    header: &Header,
-    vocabulary: &Vocabulary,
-    bytes: &[u8],
-    places: &mut [Line],
-) -> Option<RuleTable>
-    requires kind { header.now.book ≡ kind.Chart }
-    requires size { length bytes.now ≡ 5 * length places.old }
-    ensures { PartRead (SuitRules header.now vocabulary.now) rule_bytes bytes.now result }
-{
-    if !decode_list(bytes, places) {
-        return None;
+    // The chart whose lines are these bytes.
+    fn chart_of(&self, bytes: &[u8]) -> Option<RuleTable>
+        requires { self.now.header.book ≡ kind.Chart }
+        ensures { PartRead (SuitRules self.now.header self.now.vocabulary) rule_bytes bytes.now result }
+    {
+        let lines: Table<Line, 120> = decode_list(bytes)?;
+        let chart = Chart::new(self.vocabulary, lines.as_slice())?;
+        Some(RuleTable::Chart(chart))
     }
-    match Chart::new(*vocabulary, places) {
-        Some(chart) => Some(RuleTable::Chart(chart)),
-        None => None,
-    }
-}
 
-// The rules of the header's kind and size that have these bytes.
-fn rules_of(header: &Header, vocabulary: &Vocabulary, bytes: &[u8]) -> Option<RuleTable>
-    requires limits { within_limits header.now ≡ true }
-    requires size { length bytes.now ≡ rules_size header.now.book header.now.rules }
-    ensures { PartRead (SuitRules header.now vocabulary.now) rule_bytes bytes.now result }
-{
-    let n = header.rules as usize;
-    match header.book {
-        BookKind::Formula => {
-            let mut places = padded::<Node, 120>(Node::True, &[]);
-            formula_of(header, vocabulary, bytes, &mut places[0..n])
-        }
-        BookKind::Chart => {
-            let mut places = padded::<Line, 120>(Line::BLANK, &[]);
-            chart_of(header, vocabulary, bytes, &mut places[0..n])
+    // The rules of the header's kind that have these bytes.
+    fn rules_of(&self, bytes: &[u8]) -> Option<RuleTable>
+        ensures { PartRead (SuitRules self.now.header self.now.vocabulary) rule_bytes bytes.now result }
+    {
+        // the record says which; each arm reads a table of its own
+        match self.header.book {
+            BookKind::Formula => self.formula_of(bytes),
+            BookKind::Chart => self.chart_of(bytes),
         }
     }
-}
 
-// The rules: the ninth check.
-pub(crate) fn read_rules(
-    bytes: &[u8],
-    header: &Header,
-    layout: &Layout,
-    vocabulary: &Vocabulary,
-) -> Result<RuleTable, ReadRefusal>
-    requires head { HasHeader bytes.now header.now }
-    requires laid { LaidOut header.now bytes.now layout.now }
-    requires words { HasWords bytes.now header.now vocabulary.now }
-    requires before { Passed 9 bytes.now }
-    ensures { Step bytes.now (HasRules bytes.now header.now vocabulary.now) 10 result }
-{
-    match rules_of(header, vocabulary, &bytes[layout.rules..]) {
-        Some(rules) => Ok(rules),
-        None => Err(ReadRefusal::Rules),
+    // The rules: the ninth check.
+    pub(crate) fn rules(&self) -> Result<RuleTable, ReadRefusal>
+        requires { Passed 9 self.now.bytes.now }
+        ensures { Step self.now.bytes.now (HasRules self.now.bytes.now self.now.header self.now.vocabulary) 10 result }
+    {
+        let bytes = &self.bytes[self.layout.rules..];
+        self.rules_of(bytes).ok_or(ReadRefusal::Rules)
     }
 }

@@ -4,6 +4,7 @@ use plants::actions::ActionTable;
 use plants::network::Network;
 
 // The plant of a feeder.
+// A type apart from the rules, so that no book can stand for a plant.
 #[derive(Clone, Copy)]
 pub enum PlantTable {
     Actions(ActionTable),
@@ -11,6 +12,7 @@ pub enum PlantTable {
 }
 
 // The rules of a feeder.
+// A type apart from the plant, so that no plant can stand for a book.
 #[derive(Clone, Copy)]
 pub enum RuleTable {
     Formula(FormulaTable),

@@ -1,17 +1,17 @@
-ghost use Rattle.std.specs.Prelude.{◌≡◌, ◌+◌, ◌≤◌, length};
-ghost use Rattle.model.specs.Vocabularies.{arity_list};
+ghost use Rattle.std.specs.Prelude.{◌≡◌, ◌+◌, ◌≤◌, Decides, length};
 ghost use Rattle.feeder.specs.Records.{arity_bytes};
-ghost use Rattle.feeder.specs.Verdicts.{HasHeader, HasWords, KindWords, PartRead, Passed, Step, SuitWords, Tells};
+ghost use Rattle.feeder.specs.Verdicts.{HasHeader, HasWords, KindWords, PartRead, Passed, Step, SuitWords};
 
 use crate::header::{Header, PlantKind};
 use crate::refusal::ReadRefusal;
 use codec::list::decode_list;
+use codec::table::Table;
 use model::vocabulary::{Arity, Vocabulary};
 use plants::make_network::has_three_unary;
 
 // Whether a vocabulary has the predicates that a kind of plant needs.
 fn suits(kind: PlantKind, vocabulary: &Vocabulary) -> bool
-    ensures { Tells result (KindWords kind (arity_list vocabulary.now)) }
+    ensures { Decides result (KindWords kind vocabulary.now.arities) }
 {
     match kind {
         PlantKind::Actions => true,
@@ -19,22 +19,13 @@ fn suits(kind: PlantKind, vocabulary: &Vocabulary) -> bool
     }
 }
 
-// The vocabulary whose arities are these bytes, one for each place.
-fn words_of(header: &Header, bytes: &[u8], places: &mut [Arity]) -> Option<Vocabulary>
-    requires { length places.old ≡ length bytes.now }
+// The vocabulary whose arities are these bytes.
+fn words_of(header: &Header, bytes: &[u8]) -> Option<Vocabulary>
     ensures { PartRead (SuitWords header.now) arity_bytes bytes.now result }
 {
-    if !decode_list(bytes, places) {
-        return None;
-    }
-    let Some(vocabulary) = Vocabulary::new(header.objects, places) else {
-        return None;
-    };
-    if suits(header.plant, &vocabulary) {
-        Some(vocabulary)
-    } else {
-        None
-    }
+    let arities: Table<Arity, 16> = decode_list(bytes)?;
+    let vocabulary = Vocabulary::new(header.objects, arities.as_slice())?;
+    suits(header.plant, &vocabulary).then_some(vocabulary)
 }
 
 // The objects and predicates: the fifth check.
@@ -45,9 +36,5 @@ pub(crate) fn read_words(bytes: &[u8], header: &Header) -> Result<Vocabulary, Re
     ensures { Step bytes.now (HasWords bytes.now header.now) 6 result }
 {
     let n = header.predicates as usize;
-    let mut places = [Arity::Zero; 16];
-    match words_of(header, &bytes[11..11 + n], &mut places[0..n]) {
-        Some(vocabulary) => Ok(vocabulary),
-        None => Err(ReadRefusal::Predicates),
-    }
+    words_of(header, &bytes[11..11 + n]).ok_or(ReadRefusal::Predicates)
 }

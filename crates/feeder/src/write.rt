@@ -1,5 +1,6 @@
-ghost use Rattle.std.specs.Prelude.{◌≡◌, ◌*◌, ◌≤◌, true, ◌++◌, length, drop};
+ghost use Rattle.std.specs.Prelude.{◌≡◌, ◌*◌, ◌≤◌, length};
 ghost use Rattle.codec.specs.Codes.{answered, held};
+ghost use Rattle.codec.specs.Writing.{Wrote};
 ghost use Rattle.plants.specs.Operators.{operator_bytes};
 ghost use Rattle.std.specs.List.{flat_map};
 ghost use Rattle.feeder.specs.Records.{encode, header_of};
@@ -11,11 +12,14 @@ use crate::put::{put_goal, put_header, put_picture, put_plant, put_rules, put_wo
 use crate::record::Feeder;
 use crate::refusal::WriteRefusal;
 use crate::tables::{PlantTable, RuleTable};
+use codec::writer::Writer;
 use model::vocabulary::Vocabulary;
 use plants::operator::Operator;
 
+// A match for each of the two enums: what their variants hold has no type in common.
 impl PlantTable {
     // Its kind.
+    // A method and no `From`: a table tells its kind among other things of itself.
     pub fn kind(&self) -> PlantKind
         ensures { result ≡ plant_kind self.now }
     {
@@ -30,8 +34,8 @@ impl PlantTable {
         ensures { result ≡ plant_rows self.now }
     {
         match self {
-            PlantTable::Actions(table) => table.count,
-            PlantTable::Network(network) => network.count,
+            PlantTable::Actions(table) => table.operators.len() as u8,
+            PlantTable::Network(network) => network.switches.len() as u8,
         }
     }
 
@@ -46,8 +50,10 @@ impl PlantTable {
     }
 }
 
+// A match for each of the two enums: what their variants hold has no type in common.
 impl RuleTable {
     // Their kind.
+    // A method and no `From`: a table tells its kind among other things of itself.
     fn kind(&self) -> BookKind
         ensures { result ≡ rule_kind self.now }
     {
@@ -62,8 +68,8 @@ impl RuleTable {
         ensures { result ≡ rule_rows self.now }
     {
         match self {
-            RuleTable::Formula(table) => table.count,
-            RuleTable::Chart(chart) => chart.count,
+            RuleTable::Formula(table) => table.nodes.len() as u8,
+            RuleTable::Chart(chart) => chart.lines.len() as u8,
         }
     }
 }
@@ -74,42 +80,40 @@ impl Feeder {
         ensures { result ≡ header_of self.now }
     {
         let vocabulary = self.plant.vocabulary();
-        let members = self.first.members();
         Header {
             plant: self.plant.kind(),
             objects: vocabulary.objects,
-            predicates: vocabulary.predicates,
+            predicates: vocabulary.arities.len() as u8,
             rows: self.plant.rows(),
             book: self.rules.kind(),
             rules: self.rules.rows(),
-            goal: self.goal.count,
+            goal: self.goal.literals.len() as u8,
             limit: self.limit,
-            first: members.count,
+            first: self.first.members().len() as u16,
         }
     }
 }
 
-// How many bytes some operators take.
-fn operators_length(operators: &[Operator]) -> usize
-    requires { length operators.now ≤ 16 }
-    ensures size { result ≡ length (flat_map operator_bytes operators.now) }
-    ensures bound { result ≤ 67 * length operators.now }
+// How many bytes an operator takes.
+fn operator_length(op: &Operator) -> usize
+    ensures size { result ≡ length (operator_bytes op.now) }
+    ensures bound { result ≤ 67 }
 {
-    let mut size = 0;
-    for op in operators {
-        size += 3 + 4 * (op.preconditions as usize + op.effects as usize);
-    }
-    size
+    3 + 4 * (op.needs.len() + op.effects.len())
 }
 
 // How many bytes a plant's table takes.
+// Counted from the operators or switches that it has; the reader counts from bytes that may be no table.
 fn plant_length(plant: &PlantTable) -> usize
     ensures size { result ≡ length (plant_bytes plant.now) }
     ensures bound { result ≤ 1072 }
 {
     match plant {
-        PlantTable::Actions(table) => operators_length(&table.operators[0..table.count as usize]),
-        PlantTable::Network(network) => 2 * network.count as usize + 2,
+        PlantTable::Actions(table) => {
+            let operators = table.operators.as_slice();
+            operators.iter().map(operator_length).sum()
+        }
+        PlantTable::Network(network) => 2 * network.switches.len() + 2,
     }
 }
 
@@ -120,23 +124,20 @@ fn record_length(feeder: &Feeder) -> usize
 {
     let header = feeder.header();
     let plant = plant_length(&feeder.plant);
-    let facts = 2 * header.first as usize + 3 * header.goal as usize;
-    11 + header.predicates as usize + plant + facts + rules_bytes(header.book, header.rules)
+    let facts = 2 * usize::from(header.first) + 3 * usize::from(header.goal);
+    11 + usize::from(header.predicates) + plant + facts + rules_bytes(header.book, header.rules)
 }
 
-// Writes the record of a feeder over the front of a buffer, and answers how long it is.
-fn put_record(feeder: &Feeder, out: &mut [u8]) -> usize
-    requires { length (encode feeder.now) ≤ length out.old }
-    ensures next { result ≡ length (encode feeder.now) }
-    ensures after { out.new ≡ encode feeder.now ++ drop (length (encode feeder.now)) out.old }
+// Writes the record of a feeder behind what is written. None where there is no room for it.
+fn put_record(feeder: &Feeder, writer: &mut Writer) -> Option<()>
+    ensures { Wrote writer.old (encode feeder.now) writer.new result }
 {
-    let vocabulary = feeder.plant.vocabulary();
-    let mut at = put_header(feeder.header(), out, 0);
-    at = put_words(&vocabulary, out, at);
-    at = put_plant(&feeder.plant, out, at);
-    at = put_picture(&feeder.first, out, at);
-    at = put_goal(&feeder.goal, out, at);
-    put_rules(&feeder.rules, out, at)
+    put_header(feeder.header(), writer)?;
+    put_words(&feeder.plant.vocabulary(), writer)?;
+    put_plant(&feeder.plant, writer)?;
+    put_picture(&feeder.first, writer)?;
+    put_goal(&feeder.goal, writer)?;
+    put_rules(&feeder.rules, writer)
 }
 
 // Writes the record of a feeder into a buffer and answers its length, which is at most 2915.
@@ -146,9 +147,10 @@ pub fn write(feeder: &Feeder, out: &mut [u8]) -> Result<usize, WriteRefusal>
     ensures after { out.new ≡ held (encode feeder.now) out.old }
     ensures bound { length (encode feeder.now) ≤ 2915 }
 {
-    if record_length(feeder) <= out.len() {
-        Ok(put_record(feeder, out))
-    } else {
-        Err(WriteRefusal::Short)
+    if record_length(feeder) > out.len() {
+        return Err(WriteRefusal::Short);
     }
+    let mut writer = Writer { out, at: 0 };
+    put_record(feeder, &mut writer).ok_or(WriteRefusal::Short)?;
+    Ok(writer.at)
 }

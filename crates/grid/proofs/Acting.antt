@@ -1,12 +1,13 @@
 -- Actions and their numbers, and the law of a move: an action is known by its number, and what it changes is what it says.
-use Rattle.std.proofs.Common.{◌≡◌, ℕ, zero, suc, ◌+◌, ◌*◌, ◌/◌, ◌%◌, ◌^◌, ◌<◌, ◌≤◌, Bool, true, false, cond, not, ◌&&◌, eqb, ltb, Some, None, Decides, Option, sym, refl, ap, ◌∙◌, subst, ⊎_elim, arith, pow_mono}
+use Rattle.std.proofs.Common.{◌≡◌, ℕ, zero, suc, ◌+◌, ◌*◌, ◌/◌, ◌%◌, ◌^◌, ◌<◌, ◌≤◌, Bool, true, false, cond, not, eqb, Some, None, Decides, Option, sym, refl, ap, ◌∙◌, subst, ⊎_elim, arith, pow_mono, length}
 use Rattle.model.specs.Drawn.{bits_below}
 use Rattle.model.specs.Pictures.{bit}
 use Rattle.model.proofs.Bits.{bit_past}
 use Rattle.model.proofs.Drawn.{bit_bits}
 use Rattle.plants.specs.declared.network.Network.{Network}
 use Rattle.std.proofs.lemmas.List.{get_or-set_other, get_or-set_same}
-use Rattle.std.proofs.lemmas.Bool.{and_from, and_parts, cases_Bool, cases_eq, cases_lt, cond-false, cond-true, eq-eqb, false≢true, lt-ltb, ltb-true, ne_eqb, not_from_false, not-true}
+use Rattle.std.proofs.lemmas.Bool.{cases_Bool, cases_eq, cases_lt, cond-false, cond-true, eq-eqb, false≢true, ne_eqb, not_from_false, not-true}
+use Rattle.std.proofs.lemmas.Bool.Decides.{Decides-and, Decides-ltb}
 use Rattle.grid.specs.declared.action.Action.{Action}
 use Rattle.grid.specs.declared.action.Action.TheVariants.{Open, Close, Earth, Lift}
 use Rattle.grid.specs.declared.state.NetworkState.{NetworkState}
@@ -52,6 +53,13 @@ numbered_of m =
     (λ c h e. z (ap (λ (j : ℕ). j % 16) (sym e) ∙ (number_shape c h).0)))
     (cases_eq (m % 16) 0)
 
+-- a test, as a fact: that it passes, or that it fails
+so : (b : Bool) → Decides b (b ≡ true)
+so b = (λ e. e, λ e. e)
+
+not_so : (b : Bool) → Decides (not b) (b ≡ false)
+not_so b = (not-true b, not_from_false b)
+
 module _ (w : Network) (s : NetworkState) where
   -- switches and sections have numbers below sixteen
   pub possible_small : (c : Action) → Possible w s c → argument c < 16
@@ -60,22 +68,11 @@ module _ (w : Network) (s : NetworkState) where
   possible_small (Earth x) p = omega (arith, p.0, w.vocabulary.high)
   possible_small (Lift x) p = omega (arith, p.0, w.vocabulary.high)
 
-  -- a test below a bound, as a fact: of something that has to be so, or not so
-  when_so : (x n : ℕ) (b : Bool) → Decides (ltb x n && b) ((x < n) × (b ≡ true))
-  when_so x n b =
-      (λ e. let p = and_parts (ltb x n) b e in (ltb-true x n p.0, p.1), λ p. and_from (ltb x n) b (lt-ltb x n p.0) p.1)
-
-  when_not : (x n : ℕ) (b : Bool) → Decides (ltb x n && not b) ((x < n) × (b ≡ false))
-  when_not x n b = (
-    λ e. let p = and_parts (ltb x n) (not b) e in (ltb-true x n p.0, not-true b p.1),
-    λ p. and_from (ltb x n) (not b) (lt-ltb x n p.0) (not_from_false b p.1),
-  )
-
   pub changes_decided : (c : Action) → Decides (changes w s c) (Possible w s c)
-  changes_decided (Open a) = when_so a w.count (closed_at s a)
-  changes_decided (Close a) = when_not a w.count (closed_at s a)
-  changes_decided (Earth x) = when_not x w.vocabulary.objects (bit s.earths.bits x)
-  changes_decided (Lift x) = when_so x w.vocabulary.objects (bit s.earths.bits x)
+  changes_decided (Open a) = Decides-and _ _ (Decides-ltb a (length w.switches)) (so (closed_at s a))
+  changes_decided (Close a) = Decides-and _ _ (Decides-ltb a (length w.switches)) (not_so (closed_at s a))
+  changes_decided (Earth x) = Decides-and _ _ (Decides-ltb x w.vocabulary.objects) (not_so (bit s.earths.bits x))
+  changes_decided (Lift x) = Decides-and _ _ (Decides-ltb x w.vocabulary.objects) (so (bit s.earths.bits x))
 
   -- what an allowed number stands for
   allowed_as : (m : ℕ) (o : Option Action) → Numbered m o → some_changes w s o ≡ true → CanMove w s m
@@ -147,11 +144,11 @@ module _ (w : Network) (s : NetworkState) where
   acted_done (Earth x) h = earth_put x true h
   acted_done (Lift x) h = earth_put x false h
 
-  pub next_law : (m : ℕ) → Stepped w s m (network_next w s m)
-  next_law m =
-      record {
+  pub next_law : (m : ℕ) (r : NetworkState) → r ≡ network_next w s m → Stepped w s m r
+  next_law m r e = subst (Stepped w s m) (sym e)
+      (record {
         done = λ c e p.
             subst (Done s c) (sym (next_acted m c (number_of_possible m c e p) ((changes_decided c).1 p))) (acted_done c (possible_small c p));
         idle = λ n.
             next_same m (⊎_elim (λ t. absurd (n ((allowed_decided m).0 t))) (λ f. f) (cases_Bool (network_allowed w s m)));
-      }
+      })

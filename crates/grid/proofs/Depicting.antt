@@ -6,19 +6,18 @@ use Rattle.model.specs.declared.vocabulary.Arity.TheVariants.{Zero}
 use Rattle.model.specs.Facts.{facts}
 use Rattle.model.specs.Numbering.{place}
 use Rattle.model.specs.Pictures.{bit, holds}
-use Rattle.model.specs.Vocabularies.{arity_list, fact_total}
+use Rattle.model.specs.Vocabularies.{fact_total}
 use Rattle.model.proofs.Drawn.{holds_picture_of}
 use Rattle.model.proofs.Pictures.{holds_past}
 use Rattle.plants.specs.declared.network.Network.{Network}
 use Rattle.plants.specs.Switches.{network_arities}
 use Rattle.plants.proofs.Sound.{network_sound}
-use Rattle.std.proofs.lemmas.List.{get_or-take, length-take-le}
-use Rattle.std.proofs.lemmas.Bool.{cases_lt, cond-false, cond-true, le-ltb, lt-ltb}
+use Rattle.std.proofs.lemmas.Bool.{and_left, cases_lt, cond-false, cond-true, le-ltb, lt-ltb}
 use Rattle.std.proofs.lemmas.Bool.Decides.{Decides-at}
 use Rattle.grid.specs.declared.state.NetworkState.{NetworkState}
 use Rattle.grid.specs.Paths.{Joined, is_joined}
 use Rattle.grid.specs.Shown.{Depicts, fact_about, in_turn, is_live, network_shown}
-use Rattle.grid.specs.States.{has_earth, is_closed}
+use Rattle.grid.specs.States.{closed_at, has_earth, is_closed}
 use Rattle.grid.proofs.Paths.{joined_decided}
 
 -- the same tests, one after the other, are the same test
@@ -49,31 +48,30 @@ module _ (n : ℕ) (p q r : ℕ → Bool) where
       ∙ ap r e
 
 module _ (w : Network) where
-  three : arity_list w.vocabulary ≡ network_arities
+  three : w.vocabulary.arities ≡ network_arities
   three = (network_sound w).unary
-
-  three_long : w.vocabulary.predicates ≡ 3
-  three_long =
-      sym (length-take-le w.vocabulary.predicates w.vocabulary.arities (omega (arith, w.vocabulary.few, w.vocabulary.places)))
-      ∙ ap length three
-
-  unary : (p : ℕ) → p < 3 → get_or w.vocabulary.arities p Zero ≡ get_or network_arities p Zero
-  unary p h =
-      sym (get_or-take w.vocabulary.predicates w.vocabulary.arities p Zero (omega (arith, three_long)))
-      ∙ ap (λ (l : List Arity). get_or l p Zero) three
 
   -- the number of a fact about an object: predicate × objects + object
   about : (p o : ℕ) → p < 3
       → fact_about w p o ≡ facts w.vocabulary.objects (take p network_arities) + place w.vocabulary.objects (get_or network_arities p Zero) o 0
   about p o h =
       let n = w.vocabulary.objects in
-      ap (λ (l : List Arity). facts n (take p l) + place n (get_or w.vocabulary.arities p Zero) o 0) three
-      ∙ ap (λ (a : Arity). facts n (take p network_arities) + place n a o 0) (unary p h)
+      ap (λ (l : List Arity). facts n (take p l) + place n (get_or l p Zero) o 0) three
 
   total : fact_total w.vocabulary ≡ 3 * w.vocabulary.objects
   total = ap (facts w.vocabulary.objects) three ∙ omega arith
 
   module _ (s : NetworkState) where
+    -- a switch has the number of a section
+    pub closed_within : (a : ℕ) → (ltb a w.vocabulary.objects && is_closed w s a) ≡ is_closed w s a
+    closed_within a =
+        ⊎_elim
+        (λ h. ap (λ (b : Bool). b && is_closed w s a) (lt-ltb a w.vocabulary.objects h))
+        (λ h.
+        ap (λ (b : Bool). b && is_closed w s a) (le-ltb a w.vocabulary.objects h)
+        ∙ sym (and_left (ltb a (length w.switches)) (closed_at s a) (le-ltb a (length w.switches) (omega (arith, w.few)))))
+        (cases_lt a w.vocabulary.objects)
+
     -- which facts hold, by their numbers
     abbrev test : ℕ → Bool
     test = in_turn w.vocabulary.objects (is_closed w s) (has_earth w s) (is_live w s)

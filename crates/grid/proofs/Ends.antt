@@ -1,23 +1,18 @@
 -- The ends of a network's switches are two of its sections.
-use Rattle.std.proofs.Common.{◌≡◌, ℕ, ◌<◌, ◌≤◌, true, not, ◌&&◌, eqb, ltb, length, take, sym, ap, ◌∙◌, arith}
+use Rattle.std.proofs.Common.{◌≡◌, ℕ, ◌<◌, ◌≤◌, true, not, ◌&&◌, eqb, ltb, length, arith}
 use Rattle.codec.proofs.Coding.{every_at}
 use Rattle.plants.specs.declared.network.Network.{Network}
 use Rattle.plants.specs.Switches.{blank_switch, switch_fits}
-use Rattle.std.proofs.lemmas.List.{get_or-take, length-take-le}
 use Rattle.std.proofs.lemmas.Bool.{and_parts, ltb-true}
 use Rattle.grid.specs.Paths.{switch_at}
 
-pub count_small : (w : Network) → w.count ≤ 16
+pub count_small : (w : Network) → length w.switches ≤ 16
 count_small w = omega (arith, w.few, w.vocabulary.high)
 
-pub switch_sound : (w : Network) (a : ℕ) → a < w.count → switch_fits w.vocabulary.objects (switch_at w a) ≡ true
-switch_sound w a h =
-    let n = w.vocabulary.objects in
-    let l : length (take w.count w.switches) ≡ w.count = length-take-le w.count w.switches (omega (arith, count_small w, w.places)) in
-    ap (switch_fits n) (sym (get_or-take w.count w.switches a blank_switch h))
-    ∙ every_at (switch_fits n) (take w.count w.switches) blank_switch a w.ends (omega arith)
+pub switch_sound : (w : Network) (a : ℕ) → a < length w.switches → switch_fits w.vocabulary.objects (switch_at w a) ≡ true
+switch_sound w a h = every_at (switch_fits w.vocabulary.objects) w.switches blank_switch a w.ends h
 
-pub ends_below : (w : Network) (a : ℕ) → a < w.count → ((switch_at w a).from < w.vocabulary.objects) × ((switch_at w a).to < w.vocabulary.objects)
+pub ends_below : (w : Network) (a : ℕ) → a < length w.switches → ((switch_at w a).from < w.vocabulary.objects) × ((switch_at w a).to < w.vocabulary.objects)
 ends_below w a h =
     let n = w.vocabulary.objects in
     let from = (switch_at w a).from in

@@ -1,26 +1,19 @@
 -- A path need not be longer than there are sections. The sections joined by paths of at most n switches grow with n, and
 -- once one round adds nothing no later one does; each round before that adds one at least.
-use Rattle.std.proofs.Common.{◌≡◌, ℕ, zero, suc, ◌<◌, Bool, true, ◌&&◌, ◌||◌, eqb, Decides, sym, refl, ap, ◌∙◌, subst, ⊎_elim, arith}
+use Rattle.std.proofs.Common.{◌≡◌, ℕ, zero, suc, ◌<◌, Bool, true, ◌&&◌, ◌||◌, eqb, Decides, sym, refl, ◌∙◌, subst, ⊎_elim, arith, length}
 use Rattle.model.proofs.Growth.{stable_end}
 use Rattle.plants.specs.declared.network.Network.{Network}
-use Rattle.std.proofs.lemmas.Bool.{and_from, and_parts, cases_eq, eq-eqb, eqb-true, false≢true, or_cases, or_left, or_right}
+use Rattle.std.proofs.lemmas.Bool.{and_from, and_parts, eq-eqb, eqb-true, or_cases, or_left, or_right}
+use Rattle.std.proofs.lemmas.Bool.Decides.{Decides-below_or}
 use Rattle.grid.specs.declared.state.NetworkState.{NetworkState}
 use Rattle.grid.specs.Paths.{Joined, Linked, along, back, further, here, is_joined, joined_within, joins_to, some_below, switch_at}
 use Rattle.grid.specs.States.{is_closed}
 use Rattle.grid.proofs.Ends.{ends_below}
 use Rattle.grid.proofs.Growing.{closed_below, linked_below}
 
-some_at : (n : ℕ) (test : ℕ → Bool) (a : ℕ) → a < n → test a ≡ true → some_below n test ≡ true
-some_at zero test a h e = absurd (omega arith)
-some_at (suc n) test a h e =
-    ⊎_elim
-    (λ q. or_left (test n) (some_below n test) (ap test (sym q) ∙ e))
-    (λ q. or_right (test n) (some_below n test) (some_at n test a (omega arith) e))
-    (cases_eq a n)
-
-found : (n : ℕ) (test : ℕ → Bool) → some_below n test ≡ true → (a : ℕ) × (test a ≡ true)
-found zero test e = absurd (false≢true e)
-found (suc n) test e = ⊎_elim (λ h. (n, h)) (λ h. found n test h) (or_cases (test n) (some_below n test) e)
+-- some number below n passes a test
+some_decided : (n : ℕ) (test : ℕ → Bool) → Decides (some_below n test) ((a : ℕ) × (a < n) × (test a ≡ true))
+some_decided n test = Decides-below_or test (λ a. test a ≡ true) (λ m. some_below m test) (λ a. (λ e. e, λ e. e)) refl (λ _. refl) n
 
 some_same : (n : ℕ) (s t : ℕ → Bool) → ((a : ℕ) → a < n → s a ≡ t a) → some_below n s ≡ some_below n t
 some_same zero s t e = refl
@@ -61,8 +54,8 @@ module _ (w : Network) (s : NetworkState) (source : ℕ → Bool) where
       ⊎_elim
       (λ h. within_joined n x h)
       (λ h.
-      let f = found w.count (joins_to w s (joined_within w s source n) x) h in
-      join_sound (joined_within w s source n) (within_joined n) x f.0 f.1)
+      let f = (some_decided (length w.switches) (joins_to w s (joined_within w s source n) x)).0 h in
+      join_sound (joined_within w s source n) (within_joined n) x f.0 f.2)
       (or_cases (joined_within w s source n x) _ e)
 
   -- one switch further
@@ -73,7 +66,7 @@ module _ (w : Network) (s : NetworkState) (source : ℕ → Bool) where
   unfolding joined_within
   one_further n y a e d =
       or_right (joined_within w s source n y) _
-      (some_at w.count (joins_to w s (joined_within w s source n) y) a (closed_below w s a e) (and_from (is_closed w s a) _ e d))
+      ((some_decided (length w.switches) (joins_to w s (joined_within w s source n) y)).1 (a, closed_below w s a e, and_from (is_closed w s a) _ e d))
 
   linked_within : (n x y : ℕ) → Linked w s x y → joined_within w s source n x ≡ true → joined_within w s source (suc n) y ≡ true
   linked_within n _ _ (along a e) h =
@@ -95,7 +88,7 @@ module _ (w : Network) (s : NetworkState) (source : ℕ → Bool) where
   unfolding joined_within
   stable_more n e x h =
       let old = e x h in
-      let same = some_same w.count (joins_to w s (joined_within w s source n) x) (joins_to w s (joined_within w s source (suc n)) x)
+      let same = some_same (length w.switches) (joins_to w s (joined_within w s source n) x) (joins_to w s (joined_within w s source (suc n)) x)
       (λ a l.
       let b = ends_below w a l in
       let p = e (switch_at w a).from b.0 in

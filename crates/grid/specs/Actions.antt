@@ -1,5 +1,5 @@
 -- Actions of a network: the number that each has, when it changes something, and what then.
-use Rattle.std.specs.Prelude.{◌≡◌, ℕ, zero, suc, ◌+◌, ◌*◌, ◌/◌, ◌%◌, ◌<◌, Bool, true, false, cond, not, ◌&&◌, Some, None, Option, ◌==◌, ◌≢◌, nat_lt}
+use Rattle.std.specs.Prelude.{◌≡◌, ℕ, zero, suc, ◌+◌, ◌*◌, ◌/◌, ◌%◌, ◌<◌, Bool, true, false, cond, not, ◌&&◌, Some, None, Option, ◌==◌, ◌≢◌, nat_lt, length}
 use Rattle.model.specs.Pictures.{bit}
 use Rattle.plants.specs.declared.network.Network.{Network}
 use Rattle.grid.specs.declared.action.Action.{Action}
@@ -41,7 +41,7 @@ Numbered m None = (c : Action) → argument c < 16 → action_number c ≢ m
 -- whether an action changes something: its switch or section exists and is not yet as the action leaves it
 abbrev pub changes : Network → NetworkState → Action → Bool
 changes w s (Open a) = is_closed w s a
-changes w s (Close a) = nat_lt a w.count && not (closed_at s a)
+changes w s (Close a) = nat_lt a (length w.switches) && not (closed_at s a)
 changes w s (Earth x) = nat_lt x w.vocabulary.objects && not (bit s.earths.bits x)
 changes w s (Lift x) = has_earth w s x
 

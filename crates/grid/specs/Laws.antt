@@ -1,5 +1,5 @@
 -- The law of a network's moves, action by action: which are possible, and what each changes and leaves.
-use Rattle.std.specs.Prelude.{◌≡◌, ℕ, ◌<◌, Bool, true, false, ◌≢◌}
+use Rattle.std.specs.Prelude.{◌≡◌, ℕ, ◌<◌, Bool, true, false, ◌≢◌, length}
 use Rattle.model.specs.Pictures.{bit}
 use Rattle.plants.specs.declared.network.Network.{Network}
 use Rattle.grid.specs.declared.action.Action.{Action}
@@ -10,8 +10,8 @@ use Rattle.grid.specs.States.{closed_at}
 
 -- the switch or section of an action exists, and is not yet as the action leaves it
 abbrev pub Possible : Network → NetworkState → Action → Type 0
-Possible w s (Open a) = (a < w.count) × (closed_at s a ≡ true)
-Possible w s (Close a) = (a < w.count) × (closed_at s a ≡ false)
+Possible w s (Open a) = (a < length w.switches) × (closed_at s a ≡ true)
+Possible w s (Close a) = (a < length w.switches) × (closed_at s a ≡ false)
 Possible w s (Earth x) = (x < w.vocabulary.objects) × (bit s.earths.bits x ≡ false)
 Possible w s (Lift x) = (x < w.vocabulary.objects) × (bit s.earths.bits x ≡ true)
 

@@ -1,5 +1,5 @@
 -- Paths: which sections are joined to some source by closed switches.
-use Rattle.std.specs.Prelude.{◌≡◌, ℕ, zero, suc, Bool, true, false, ◌&&◌, ◌||◌, ◌==◌, slice_index_or}
+use Rattle.std.specs.Prelude.{◌≡◌, ℕ, zero, suc, Bool, true, false, ◌&&◌, ◌||◌, ◌==◌, slice_index_or, length}
 use Rattle.plants.specs.declared.network.Network.{Network}
 use Rattle.plants.specs.declared.network.Switch.{Switch}
 use Rattle.plants.specs.Switches.{blank_switch}
@@ -35,7 +35,7 @@ joins_to w s test x a =
 unfoldable pub joined_within : Network → NetworkState → (ℕ → Bool) → ℕ → ℕ → Bool
 joined_within w s source zero x = source x
 joined_within w s source (suc n) x =
-    joined_within w s source n x || some_below w.count (joins_to w s (joined_within w s source n) x)
+    joined_within w s source n x || some_below (length w.switches) (joins_to w s (joined_within w s source n) x)
 
 -- whether a path of closed switches joins a section to a source: no path need be longer than there are sections
 abbrev pub is_joined : Network → NetworkState → (ℕ → Bool) → ℕ → Bool

@@ -1,7 +1,8 @@
 -- Reached sections: what a search along closed switches gives, and what one switch adds on the way.
-use Rattle.std.specs.Prelude.{◌≡◌, ℕ, ◌≤◌, Bool, true, Decides}
+use Rattle.std.specs.Prelude.{◌≡◌, ℕ, ◌≤◌, Bool, true, ◌&&◌, ◌||◌, Decides, ◌==◌}
 use Rattle.model.specs.Pictures.{bit}
 use Rattle.plants.specs.declared.network.Network.{Network}
+use Rattle.plants.specs.declared.network.Switch.{Switch}
 use Rattle.grid.specs.declared.sections.Sections.{Sections}
 use Rattle.grid.specs.declared.state.NetworkState.{NetworkState}
 use Rattle.grid.specs.Paths.{Joined, switch_at}
@@ -26,3 +27,7 @@ pub record Spread (w : Network) (s : NetworkState) (a : ℕ) (before after : Sec
   pub more : before.bits ≤ after.bits
   pub sound : (source : ℕ → Bool) → AllJoined w s source before → AllJoined w s source after
   pub done : after.bits ≡ before.bits → Even w s a after
+
+-- some sections, and both ends of a switch where it is closed and one of them is among these
+abbrev pub with_ends : Switch → Bool → (ℕ → Bool) → ℕ → Bool
+with_ends l closed there x = there x || ((closed && (there l.from || there l.to)) && (x == l.from || x == l.to))

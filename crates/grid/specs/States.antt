@@ -1,5 +1,5 @@
 -- States of a network: where its switches stand and where earths are placed.
-use Rattle.std.specs.Prelude.{ℕ, ◌+◌, Bool, false, cond, ◌&&◌, map, ◌==◌, nat_lt, slice_index_or, slice_set, refl}
+use Rattle.std.specs.Prelude.{ℕ, ◌+◌, Bool, false, cond, ◌&&◌, map, ◌==◌, nat_lt, slice_index_or, slice_set, refl, length}
 use Rattle.std.proofs.Common.{◌∙◌, length-set}
 use Rattle.model.specs.declared.picture.Picture.{Picture}
 use Rattle.model.specs.Drawn.{bits_below, bits_of}
@@ -16,7 +16,7 @@ closed_at s a = (slice_index_or s.switches a (record { closed = false })).closed
 
 -- whether the network has a switch a, and it is closed
 abbrev pub is_closed : Network → NetworkState → ℕ → Bool
-is_closed w s a = nat_lt a w.count && closed_at s a
+is_closed w s a = nat_lt a (length w.switches) && closed_at s a
 
 -- whether the network has a section x, and an earth is placed at it
 abbrev pub has_earth : Network → NetworkState → ℕ → Bool
@@ -46,7 +46,7 @@ with_earth s x there =
 
 -- the position of switch a at the start: closed where there is such a switch and the first facts say so
 abbrev pub first_position : Network → Picture → ℕ → Position
-first_position w p a = record { closed = holds p a && nat_lt a w.count }
+first_position w p a = record { closed = holds p a && nat_lt a (length w.switches) }
 
 -- whether an earth is placed at section x at the start; the facts of earths follow those of the switches' positions
 abbrev pub has_first_earth : Network → Picture → ℕ → Bool

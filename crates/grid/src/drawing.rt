@@ -1,5 +1,6 @@
-ghost use Rattle.std.specs.Prelude.{◌≡◌, ℕ, ◌^◌, ◌<◌, ◌≤◌};
-ghost use Rattle.model.specs.Pictures.{holds};
+ghost use Rattle.std.specs.Prelude.{◌≡◌, ℕ, ◌<◌};
+ghost use Rattle.model.specs.Drawn.{bits_of};
+ghost use Rattle.model.specs.Pictures.{bit, holds};
 ghost use Rattle.grid.specs.Shown.{Depicts, network_shown, side_by_side};
 
 use crate::plant::NetworkPlant;
@@ -7,6 +8,7 @@ use crate::reach::reach;
 use crate::sections::Sections;
 use crate::state::NetworkState;
 use model::picture::Picture;
+use plants::network::Network;
 
 impl NetworkPlant {
     // The picture of a state: the closed switches, the sections with an earth and the live sections, each by its facts.
@@ -15,28 +17,25 @@ impl NetworkPlant {
         ensures shown { result ≡ network_shown self.now.network state.now }
         ensures law { Depicts self.now.network state.now result }
     {
-        let sections = self.network.vocabulary.objects;
         let fed = Sections {
             bits: self.network.fed,
         };
-        let reached = reach(&self.network, state, fed);
-        let closed = state.closed(self.network.count);
-        let earthed = state.earths.first(sections);
-        let live = reached.first(sections);
-        pack(sections, closed, earthed, live)
+        let closed = state.closed(&self.network);
+        let live = reach(&self.network, state, fed);
+        pack(&self.network, closed, state.earths, live)
     }
 }
 
-// The picture of three predicates of some objects, each given by bits; a network has at most 48 facts, so one word
-// holds them.
-fn pack(objects: u8, closed: u16, earthed: u16, live: u16) -> Picture
-    requires few { objects ≤ 16 }
-    requires switches { closed < 2 ^ objects }
-    requires earths { earthed < 2 ^ objects }
-    requires fed { live < 2 ^ objects }
-    ensures { (f : ℕ) → f < 512 → holds result f ≡ side_by_side objects closed earthed live f }
+// The picture of a network's three predicates, each given by what it is said of; a network has at most 48 facts, so one
+// word holds them.
+fn pack(network: &Network, closed: Sections, earthed: Sections, live: Sections) -> Picture
+    ensures { let n = network.now.vocabulary.objects in (f : ℕ) → f < 512 → holds result f ≡ side_by_side n (bits_of n (bit closed.bits)) (bits_of n (bit earthed.bits)) (bits_of n (bit live.bits)) f }
 {
-    let word = closed as u64 | (earthed as u64) << objects | (live as u64) << (2 * objects);
+    let sections = network.vocabulary.objects;
+    // bits shifted as the picture numbers its facts: first closed, then earthed, then live
+    let word = u64::from(closed.within(network))
+        | u64::from(earthed.within(network)) << sections
+        | u64::from(live.within(network)) << (2 * sections);
     Picture {
         words: [word, 0, 0, 0, 0, 0, 0, 0],
     }

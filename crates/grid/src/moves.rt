@@ -32,28 +32,27 @@ impl NetworkPlant {
         ensures same { result ≡ changes self.now.network state.now action }
         ensures law { Decides result (Possible self.now.network state.now action) }
     {
-        let switches = self.network.count;
+        let switches = self.network.switches.len() as u8;
         let sections = self.network.vocabulary.objects;
         match action {
-            Action::Open(a) => a < switches && state.switches[a as usize].closed,
-            Action::Close(a) => a < switches && !state.switches[a as usize].closed,
+            Action::Open(a) => a < switches && state.is_closed(a),
+            Action::Close(a) => a < switches && !state.is_closed(a),
             Action::Earth(x) => x < sections && !state.earths.has(x),
             Action::Lift(x) => x < sections && state.earths.has(x),
         }
     }
 
     // Whether a move is allowed in a state: it is the number of an action that is possible.
+    #[tactic(auto, unfolding(crate::specs::Actions::network_allowed))]
     pub fn allows(&self, state: &NetworkState, number: u16) -> bool
         ensures same { result ≡ network_allowed self.now.network state.now number }
         ensures law { Decides result (CanMove self.now.network state.now number) }
     {
-        match Action::of(number) {
-            Some(action) => self.changes(state, action),
-            None => false,
-        }
+        Action::of(number).is_some_and(|action| self.changes(state, action))
     }
 
     // The state after a move: what its action says is changed, and where it is not allowed nothing is.
+    #[tactic(auto, using(crate::proofs::Acting::next_law), unfolding(crate::specs::Actions::network_allowed, crate::specs::Actions::network_next))]
     pub fn step(&self, state: &NetworkState, number: u16) -> NetworkState
         ensures next { result ≡ network_next self.now.network state.now number }
         ensures law { Stepped self.now.network state.now number result }
@@ -93,12 +92,9 @@ impl Plant for NetworkPlant {
 
     // Only each sixteenth number can be a move, and none from 1024 on.
     fn allowed_from(&self, state: &NetworkState, from: u16) -> Option<u16> {
-        for place in from.div_ceil(16)..64 {
-            if self.allows(state, place * 16) {
-                return Some(place * 16);
-            }
-        }
-        None
+        (from.div_ceil(16)..64)
+            .map(|place| place * 16)
+            .find(|number| self.allows(state, *number))
     }
 
     fn after(&self, state: &NetworkState, number: u16) -> NetworkState {

@@ -1,9 +1,12 @@
-ghost use Rattle.std.specs.Prelude.{◌≡◌, ℕ, ◌-◌, ◌^◌, ◌<◌, ◌≤◌, not, ◌&&◌, ◌||◌, ◌==◌};
+ghost use Rattle.std.specs.Prelude.{◌≡◌, ℕ, ◌-◌, ◌^◌, ◌<◌, ◌≤◌, false, not, ◌&&◌, ◌||◌, ◌==◌};
 ghost use Rattle.model.specs.Drawn.{bits_of};
 ghost use Rattle.model.specs.Pictures.{bit};
 
+use plants::network::Network;
+
 // A set of sections: bit s says whether section s is in it.
-#[derive(Clone, Copy)]
+// Bits of one number: two sets are compared, or cut to what both have, in one step; contracts speak of the bits.
+#[derive(Debug, Clone, Copy, PartialEq, Eq)]
 pub struct Sections {
     pub bits: u16,
     ghost small: { bits < 2 ^ 16 },
@@ -17,42 +20,62 @@ impl Sections {
         section < 16 && (self.bits >> section) & 1 == 1
     }
 
-    // The first sections, all of them.
-    pub(crate) fn all(count: u8) -> Sections
-        requires { count ≤ 16 }
-        ensures { result.bits ≡ 2 ^ count - 1 }
+    // All sections of a network.
+    pub(crate) fn all(network: &Network) -> Sections
+        ensures { result.bits ≡ 2 ^ network.now.vocabulary.objects - 1 }
     {
         Sections {
-            bits: ((1u32 << count) - 1) as u16,
+            bits: u16::MAX >> (16 - network.vocabulary.objects),
         }
     }
 
-    // The bits of the first sections alone.
-    pub(crate) fn first(self, count: u8) -> u16
-        requires { count ≤ 16 }
-        ensures { result ≡ bits_of count (bit self.bits) }
+    // Those sections of a network that pass a test.
+    pub(crate) fn those<F: Fn(u8) -> bool>(network: &Network, test: F) -> Sections
+        requires { F.IsAlwaysCallable test }
+        ensures tested { (k : ℕ) → k < network.now.vocabulary.objects → F.post test k (bit result.bits k) }
+        ensures others { (k : ℕ) → network.now.vocabulary.objects ≤ k → bit result.bits k ≡ false }
     {
-        self.bits & Sections::all(count).bits
+        let mut bits = 0;
+        for section in 0..network.vocabulary.objects {
+            if test(section) {
+                bits |= bit_of(section);
+            }
+        }
+        Sections { bits }
+    }
+
+    // The bits of those that a network has.
+    pub(crate) fn within(self, network: &Network) -> u16
+        ensures { result ≡ bits_of network.now.vocabulary.objects (bit self.bits) }
+    {
+        self.bits & Sections::all(network).bits
     }
 
     // The set with one section more.
+    // Apart from `without`, as the library's sets have two such calls: each changes the bits in its own way.
     pub(crate) fn with(self, section: u8) -> Sections
-        requires { section < 16 }
-        ensures bits { (k : ℕ) → bit result.bits k ≡ (k == section || bit self.bits k) }
+        ensures bits { (k : ℕ) → k < 16 → bit result.bits k ≡ (k == section || bit self.bits k) }
         ensures more { self.bits ≤ result.bits }
     {
         Sections {
-            bits: self.bits | 1 << section,
+            bits: self.bits | bit_of(section),
         }
     }
 
     // The set without one of its sections.
+    // Not one function with a flag for both, since `with` sets a bit and this clears one.
     pub(crate) fn without(self, section: u8) -> Sections
-        requires { section < 16 }
         ensures { (k : ℕ) → k < 16 → bit result.bits k ≡ (not (k == section) && bit self.bits k) }
     {
         Sections {
-            bits: self.bits & !(1 << section),
+            bits: self.bits & !bit_of(section),
         }
     }
+}
+
+// The bit of a section, and none of a number from 16 on, which no section has.
+fn bit_of(section: u8) -> u16
+    ensures { (k : ℕ) → k < 16 → bit result k ≡ (k == section) }
+{
+    1u16.checked_shl(u32::from(section)).unwrap_or(0)
 }

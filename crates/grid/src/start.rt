@@ -6,9 +6,11 @@ use crate::plant::NetworkPlant;
 use crate::sections::Sections;
 use crate::state::{NetworkState, Position};
 use model::fact::Fact;
+use std::array;
 
 impl NetworkPlant {
     // The state at the start: just those switches are closed and those earths placed that the first facts say.
+    #[tactic(auto, using(crate::proofs::Same::same_state), unfolding(crate::specs::States::first_state))]
     pub fn start(&self) -> NetworkState
         ensures { result ≡ first_state self.now.network self.now.first }
     {
@@ -22,25 +24,20 @@ impl NetworkPlant {
     fn first_positions(&self) -> [Position; 16]
         ensures { result ≡ map (first_position self.now.network self.now.first) (range_with_len 0 16) }
     {
-        let mut switches = [Position { closed: false }; 16];
-        for a in 0..16u8 {
-            let fact = Fact { number: a as u16 };
-            let closed = self.first.holds(fact) && a < self.network.count;
-            switches[a as usize] = Position { closed };
-        }
-        switches
+        array::from_fn(|a| Position {
+            closed: a < self.network.switches.len() && self.first.holds(Fact { number: a as u16 }),
+        })
     }
 
     // Where earths are placed at the start.
     fn first_earths(&self) -> Sections
         ensures { result ≡ sections_of (has_first_earth self.now.network self.now.first) }
     {
-        let sections = self.network.vocabulary.objects;
-        let mut bits = 0;
-        for x in 0..sections {
-            let number = sections as u16 + x as u16;
-            bits |= (self.first.holds(Fact { number }) as u16) << x;
-        }
-        Sections { bits }
+        let sections = u16::from(self.network.vocabulary.objects);
+        Sections::those(&self.network, |x| {
+            self.first.holds(Fact {
+                number: sections + u16::from(x),
+            })
+        })
     }
 }

@@ -2,95 +2,92 @@
 // or says under which number the input is refused.
 #![tactic(auto)]
 
+mod amount;
 mod input;
 mod moves;
-mod page;
 mod plant;
 mod rules;
 mod words;
 
-ghost use Rattle.std.specs.Prelude.{◌≡◌, ◌≤◌, length, is_ok, Decides};
+ghost use Rattle.std.specs.Prelude.{◌≡◌, Some, Err, Decides, IfOk, string_bytes};
 ghost use Rattle.feeder.specs.Records.{encode};
+ghost use Rattle.feeder.specs.declared.refusal.ReadRefusal.{ReadRefusal as Reason};
 ghost use Rattle.feeder.specs.Refusals.{read_number};
-ghost use Rattle.inspect.specs.Pages.{added};
+ghost use Rattle.feeder.specs.Verdicts.{Verdict};
 ghost use Rattle.sheet.specs.Sheet.{refusal_line};
 
+use crate::amount::Amount;
 use crate::input::take_in;
-use crate::page::{Said, count, say};
-use crate::plant::show_plant;
-use crate::rules::show_rules;
-use crate::words::{Words, list};
+use crate::words::Words;
 use feeder::read::read;
 use feeder::record::Feeder;
 use feeder::refusal::ReadRefusal;
 use feeder::write::write;
-use sheet::text::write_refusal;
-use std::io;
+use std::alloc::{AllocError, Global};
 use std::io::Write;
+use std::{fmt, io};
 
-// Says what a feeder holds.
-fn show(page: &mut Vec<u8>, feeder: &Feeder) -> Said {
-    let words = Words::of(&feeder.plant);
-    show_plant(page, &words, &feeder.plant)?;
-    say(page, "first facts: ")?;
-    let first = feeder.first.members();
-    list(page, &words, &first.facts[0..first.count as usize], "none")?;
-    say(page, "\ngoal: ")?;
-    let wanted = &feeder.goal.literals[0..feeder.goal.count as usize];
-    list(page, &words, wanted, "nothing is wanted")?;
-    say(page, "\nlimit: ")?;
-    count(page, feeder.limit as u16, "move", "moves")?;
-    say(page, "\n")?;
-    show_rules(page, &words, &feeder.rules)
+// What a feeder holds, and whether writing it back gives the bytes that it was read from.
+fn report<'a>(
+    heap: Global,
+    words: &'a Words,
+    feeder: &'a Feeder,
+    bytes: &[u8],
+) -> Result<String, AllocError> {
+    let plant = words.say(&feeder.plant);
+    let members = feeder.first.members();
+    let first = words.list(members.as_slice(), "none");
+    let goal = words.list(feeder.goal.literals.as_slice(), "nothing is wanted");
+    let limit = Amount(usize::from(feeder.limit), "move");
+    let rules = words.say(&feeder.rules);
+    let length = Amount(bytes.len(), "byte");
+    let how = if is_record(feeder, bytes) {
+        "the same"
+    } else {
+        "otherwise"
+    };
+    format!(in heap;
+        "{plant}first facts: {first}\ngoal: {goal}\nlimit: {limit}\n{rules}record: {length}, written back {how}\n"
+    )
 }
 
 // Whether the record of a feeder is these bytes. A record has at most 2915 bytes.
 fn is_record(feeder: &Feeder, bytes: &[u8]) -> bool
     ensures { Decides result (encode feeder.now ≡ bytes.now) }
 {
+    // a buffer of fixed size: the writer serves a panel too, so it takes one and allocates nothing
     let mut buffer = [0u8; 2915];
-    match write(feeder, &mut buffer) {
-        Ok(length) => &buffer[0..length] == bytes,
-        Err(_) => unreachable(),
+    let length = write(feeder, &mut buffer).unwrap();
+    &buffer[..length] == bytes
+}
+
+// That the input is refused, and under which number.
+#[derive(Clone, Copy)]
+struct Refused(ReadRefusal);
+
+impl fmt::Display for Refused {
+    ghost output = { λ r. Some (refusal_line (read_number r.0)) };
+
+    fn fmt<W: fmt::Write>(&self, f: &mut fmt::Formatter<W>) -> fmt::Result {
+        writeln!(f, "REFUSED,{}", self.0.number())
     }
 }
 
-// Writes a feeder back, and says whether that gives the bytes that it was read from.
-fn again(page: &mut Vec<u8>, feeder: &Feeder, bytes: &[u8]) -> Said
-    requires { length bytes.now ≤ 34532 }
+// What the program prints for its input: a report, or one line where the input is refused.
+fn answer(heap: Global, bytes: &[u8]) -> Result<String, AllocError>
+    ensures refused { (r : Reason) → Verdict bytes.now (Err r) → IfOk result (λ page. string_bytes page ≡ refusal_line (read_number r)) }
 {
-    say(page, "record: ")?;
-    count(page, bytes.len() as u16, "byte", "bytes")?;
-    say(page, ", written back ")?;
-    let how = if is_record(feeder, bytes) {
-        "the same"
-    } else {
-        "otherwise"
-    };
-    say(page, how)?;
-    say(page, "\n")
-}
-
-// Says that the input is refused, and under which number. The line has at most 12 bytes.
-fn refuse(page: &mut Vec<u8>, refusal: ReadRefusal) -> Said
-    ensures { page.new.items ≡ added page.old.items (refusal_line (read_number refusal)) (is_ok result) }
-{
-    let mut line = [0u8; 12];
-    match write_refusal(&mut line, refusal.number()) {
-        Ok(length) => page.extend_from_slice(&line[0..length]),
-        Err(_) => unreachable(),
+    match read(bytes) {
+        Ok(feeder) => {
+            let words = Words::from(&feeder.plant);
+            report(heap, &words, &feeder, bytes)
+        }
+        Err(refusal) => Refused(refusal).to_string(heap),
     }
 }
 
 fn main(rt: HostRuntime) -> io::Result<()> {
     let bytes = take_in(rt.alloc(), &mut rt.stdin())?;
-    let mut page = Vec::new(rt.alloc());
-    match read(bytes.as_slice()) {
-        Ok(feeder) => {
-            show(&mut page, &feeder)?;
-            again(&mut page, &feeder, bytes.as_slice())?;
-        }
-        Err(refusal) => refuse(&mut page, refusal)?,
-    }
-    rt.stdout().write_all(page.as_slice())
+    let page = answer(rt.alloc(), bytes.as_slice())?;
+    rt.stdout().write_all(page.as_bytes())
 }

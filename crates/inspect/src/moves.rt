@@ -1,74 +1,89 @@
 // The first state of a plant in words: its picture, and the moves that are allowed in it.
-ghost use Rattle.std.specs.Prelude.{◌≡◌, IfOk};
-ghost use Rattle.inspect.specs.Names.{action_words};
+ghost use Rattle.std.specs.Prelude.{◌≡◌, IfOk, Some};
+ghost use Rattle.grid.specs.Actions.{action_of};
+ghost use Rattle.inspect.specs.Texts.{action_text, operator_text};
 ghost use Rattle.model.specs.Pictures.{chosen};
 
-use crate::page::{Said, number, say};
-use crate::words::{Words, show_picture};
+use crate::words::Words;
 use feeder::record::Feeder;
 use feeder::tables::PlantTable;
 use grid::action::Action;
 use grid::plant::NetworkPlant;
 use model::plant::Plant;
 use std::alloc::{AllocError, Global};
+use std::fmt;
 use strips::plant::ActionPlant;
 
-// A plant whose moves can be put into words.
-trait Spoken: Plant {
-    // Adds what a move does.
-    fn show_move(&self, page: &mut Vec<u8>, of: u16) -> Said;
+// A move of a plant, by its number.
+#[derive(Clone, Copy)]
+struct Move<'a, P> {
+    plant: &'a P,
+    number: u16,
 }
 
-// What an action does, up to the number of its switch or section.
-fn action_words(action: Action) -> &'static str
-    ensures { result.now ≡ action_words action }
-{
-    match action {
-        Action::Open(_) => "open switch ",
-        Action::Close(_) => "close switch ",
-        Action::Earth(_) => "place an earth at section ",
-        Action::Lift(_) => "lift the earth at section ",
-    }
-}
+impl fmt::Display for Move<'_, NetworkPlant> {
+    ghost output = { λ m. Some (action_text (action_of m.number)) };
 
-impl Spoken for NetworkPlant {
-    fn show_move(&self, page: &mut Vec<u8>, of: u16) -> Said {
-        match Action::of(of) {
-            Some(action) => {
-                say(page, action_words(action))?;
-                number(page, of / 16 % 16)
-            }
+    fn fmt<W: fmt::Write>(&self, f: &mut fmt::Formatter<W>) -> fmt::Result {
+        match Action::of(self.number) {
+            Some(Action::Open(switch)) => write!(f, "open switch {switch}"),
+            Some(Action::Close(switch)) => write!(f, "close switch {switch}"),
+            Some(Action::Earth(section)) => write!(f, "place an earth at section {section}"),
+            Some(Action::Lift(section)) => write!(f, "lift the earth at section {section}"),
             // no allowed move comes here
-            None => say(page, "no action"),
+            None => f.write_str("no action"),
         }
     }
 }
 
-impl Spoken for ActionPlant {
-    fn show_move(&self, page: &mut Vec<u8>, of: u16) -> Said {
-        let k = of / 256;
-        say(page, "operator ")?;
-        number(page, k)?;
-        // every allowed move has an operator of the table
-        if k < self.table.count as u16 {
-            let taken = self.table.operators[k as usize].parameters;
-            show_arguments(page, taken, of)?;
+// A move of an action table is its operator and the objects that the operator is applied to.
+impl fmt::Display for Move<'_, ActionPlant> {
+    ghost output = { λ m. Some (operator_text m.plant.now.table m.number) };
+
+    fn fmt<W: fmt::Write>(&self, f: &mut fmt::Formatter<W>) -> fmt::Result {
+        let table = &self.plant.table;
+        let operators = table.operators.as_slice();
+        let k = self.number / 256;
+        let first = self.number / 16 % 16;
+        let second = self.number % 16;
+        let taken = operators
+            .get(usize::from(k))
+            .map(|operator| operator.parameters);
+        match taken {
+            // every allowed move has an operator of the table
+            None | Some(0) => write!(f, "operator {k}"),
+            Some(1) => write!(f, "operator {k} with {first}"),
+            Some(_) => write!(f, "operator {k} with {first}, {second}"),
+        }
+    }
+}
+
+// Moves of a plant, by their numbers.
+#[derive(Drop)]
+struct Moves<'a, P> {
+    plant: &'a P,
+    numbers: Vec<u16>,
+}
+
+// How many moves there are, and a line for each: its number and what it does.
+impl<'a, P> fmt::Display for Moves<'a, P>
+where
+    Move<'a, P>: fmt::Display,
+{
+    fn fmt<W: fmt::Write>(&self, f: &mut fmt::Formatter<W>) -> fmt::Result {
+        if self.numbers.is_empty() {
+            return writeln!(f, "none");
+        }
+        writeln!(f, "{}", self.numbers.len())?;
+        for number in &self.numbers {
+            let of = Move {
+                plant: self.plant,
+                number: *number,
+            };
+            writeln!(f, "  {number}: {of}")?;
         }
         Ok(())
     }
-}
-
-// Adds the objects that a move's operator is applied to, of which it takes so many.
-fn show_arguments(page: &mut Vec<u8>, taken: u8, of: u16) -> Said {
-    if taken > 0 {
-        say(page, " with ")?;
-        number(page, of / 16 % 16)?;
-    }
-    if taken > 1 {
-        say(page, ", ")?;
-        number(page, of % 16)?;
-    }
-    Ok(())
 }
 
 // The moves that are allowed in a state, in ascending order.
@@ -81,6 +96,7 @@ fn allowed_moves<P: Plant>(
 {
     let mut moves = Vec::new(heap);
     let mut from = 0;
+    // each question begins behind the last answer, so no range or list says beforehand what to go over
     while let Some(found) = plant.allowed_from(state, from) {
         moves.push(found)?;
         from = found + 1;
@@ -88,35 +104,25 @@ fn allowed_moves<P: Plant>(
     Ok(moves)
 }
 
-// Adds a line for each of some moves: its number and what it does.
-fn show_moves<P: Spoken>(page: &mut Vec<u8>, plant: &P, moves: &[u16]) -> Said {
-    for of in moves {
-        say(page, "  ")?;
-        number(page, *of)?;
-        say(page, ": ")?;
-        plant.show_move(page, *of)?;
-        say(page, "\n")?;
-    }
-    Ok(())
-}
-
-// Adds the picture of the first state, and the moves that are allowed in it.
-fn show_first<P: Spoken>(page: &mut Vec<u8>, words: &Words, plant: &P) -> Said {
+// The picture of the first state, and the moves that are allowed in it.
+fn first_state<'a, P: Plant>(
+    heap: Global,
+    words: &'a Words,
+    plant: &'a P,
+) -> Result<String, AllocError>
+where
+    Move<'a, P>: fmt::Display,
+{
     let state = plant.first_state();
-    say(page, "first picture: ")?;
-    show_picture(page, words, &plant.picture(&state))?;
-    say(page, "\nallowed moves: ")?;
-    let moves = allowed_moves(*page.allocator(), plant, &state)?;
-    if moves.is_empty() {
-        return say(page, "none\n");
-    }
-    number(page, moves.len() as u16)?;
-    say(page, "\n")?;
-    show_moves(page, plant, moves.as_slice())
+    let members = plant.picture(&state).members();
+    let picture = words.list(members.as_slice(), "none");
+    let numbers = allowed_moves(heap, plant, &state)?;
+    let moves = Moves { plant, numbers };
+    format!(in heap; "first picture: {picture}\nallowed moves: {moves}")
 }
 
-// Adds the picture of a feeder's first state, and the moves that are allowed in it.
-pub(crate) fn show_start(page: &mut Vec<u8>, words: &Words, feeder: &Feeder) -> Said {
+// The picture of a feeder's first state, and the moves that are allowed in it.
+pub(crate) fn start(heap: Global, words: &Words, feeder: &Feeder) -> Result<String, AllocError> {
     let first = feeder.first;
     match &feeder.plant {
         PlantTable::Actions(table) => {
@@ -124,26 +130,27 @@ pub(crate) fn show_start(page: &mut Vec<u8>, words: &Words, feeder: &Feeder) -> 
                 table: *table,
                 first,
             };
-            show_first(page, words, &plant)
+            first_state(heap, words, &plant)
         }
         PlantTable::Network(network) => {
             let plant = NetworkPlant {
                 network: *network,
                 first,
             };
-            show_first(page, words, &plant)
+            first_state(heap, words, &plant)
         }
     }
 }
 
 #[cfg(test)]
 mod tests {
-    use super::show_start;
+    use super::start;
     use crate::words::Words;
     use feeder::read::read;
     use std::test::Fail;
 
     // The example of three sections.
+    // The same bytes as in the tests of whole records, which no other crate sees.
     const EXAMPLE: [u8; 50] = *b"\
         \x01\x02\x03\x03\x02\x01\x05\x02\x02\x00\x02\
         \x01\x01\x01\
@@ -163,13 +170,12 @@ mod tests {
 
     #[test]
     fn first_state_of_the_example(rt: HostRuntime) -> Result<(), Fail> {
+        // by let-else: the check makes no proof of `?` with the tables of the feeder taken out behind it
         let Ok(feeder) = read(&EXAMPLE) else {
             return Err(Fail::new("refused"));
         };
-        let mut page = Vec::new(rt.alloc());
-        let said = show_start(&mut page, &Words::of(&feeder.plant), &feeder);
-        assert!(rt; said.is_ok());
-        assert_eq!(rt; page.as_slice(), SAID.as_bytes());
+        let said = start(rt.alloc(), &Words::from(&feeder.plant), &feeder)?;
+        assert_eq!(rt; said.as_str(), SAID);
         Ok(())
     }
 }

@@ -2,114 +2,87 @@
 ghost use Rattle.std.specs.Prelude.{◌≡◌};
 ghost use Rattle.inspect.specs.Names.{parameter_names};
 
-use crate::page::{Said, count, number, say};
-use crate::words::{Words, list, show_predicate};
-use codec::coded::Coded;
+use crate::amount::Amount;
+use crate::words::{InWords, Predicate};
 use feeder::tables::PlantTable;
+use grid::sections::Sections;
 use plants::actions::ActionTable;
 use plants::network::{Network, Switch};
 use plants::operator::Operator;
+use std::fmt;
 
-// Adds a plant.
-pub(crate) fn show_plant(page: &mut Vec<u8>, words: &Words, plant: &PlantTable) -> Said {
-    match plant {
-        PlantTable::Actions(table) => show_actions(page, words, table),
-        PlantTable::Network(network) => show_network(page, network),
-    }
-}
-
-// Adds a network: its size, its switches and the sections that are fed.
-fn show_network(page: &mut Vec<u8>, network: &Network) -> Said {
-    let sections = network.vocabulary.objects as u16;
-    say(page, "network of ")?;
-    count(page, sections, "section", "sections")?;
-    say(page, "\nswitches: ")?;
-    if network.count == 0 {
-        say(page, "none")?;
-    } else {
-        number(page, network.count as u16)?;
-    }
-    say(page, "\n")?;
-    show_switches(page, network)?;
-    say(page, "fed: ")?;
-    show_fed(page, network)?;
-    say(page, "\n")
-}
-
-// Adds a line for each switch of a network.
-fn show_switches(page: &mut Vec<u8>, network: &Network) -> Said {
-    for k in 0..network.count {
-        show_switch(page, k, network.switches[k as usize])?;
-    }
-    Ok(())
-}
-
-// Adds the line of switch k.
-fn show_switch(page: &mut Vec<u8>, k: u8, switch: Switch) -> Said {
-    say(page, "  switch ")?;
-    number(page, k as u16)?;
-    say(page, " joins sections ")?;
-    number(page, switch.from as u16)?;
-    say(page, " and ")?;
-    number(page, switch.to as u16)?;
-    say(page, "\n")
-}
-
-// Adds the sections of a network that are fed.
-fn show_fed(page: &mut Vec<u8>, network: &Network) -> Said {
-    if network.fed == 0 {
-        return say(page, "no section");
-    }
-    for section in 0..network.vocabulary.objects {
-        if (network.fed >> section) & 1 == 1 {
-            // a comma where one with a lower number is fed too
-            if network.fed % (1 << section) != 0 {
-                say(page, ", ")?;
-            }
-            say(page, "section ")?;
-            number(page, section as u16)?;
+impl fmt::Display for InWords<'_, PlantTable> {
+    fn fmt<W: fmt::Write>(&self, f: &mut fmt::Formatter<W>) -> fmt::Result {
+        let plant = self.of;
+        match plant {
+            PlantTable::Actions(table) => write!(f, "{}", self.words.say(table)),
+            PlantTable::Network(network) => write!(f, "{}", self.words.say(network)),
         }
     }
-    Ok(())
 }
 
-// Adds an action table: its objects, its predicates and its operators.
-fn show_actions(page: &mut Vec<u8>, words: &Words, table: &ActionTable) -> Said {
-    say(page, "action table over ")?;
-    count(page, table.vocabulary.objects as u16, "object", "objects")?;
-    say(page, "\npredicates: ")?;
-    show_predicates(page, words)?;
-    say(page, "\n")?;
-    if table.count == 0 {
-        return say(page, "operators: none\n");
-    }
-    show_operators(page, words, table)
-}
-
-// Adds the predicates, each with the number of objects that it takes.
-fn show_predicates(page: &mut Vec<u8>, words: &Words) -> Said {
-    for p in 0..words.vocabulary.predicates {
-        if p > 0 {
-            say(page, ", ")?;
+// A network is its size, its switches and the sections that are fed.
+impl fmt::Display for InWords<'_, Network> {
+    fn fmt<W: fmt::Write>(&self, f: &mut fmt::Formatter<W>) -> fmt::Result {
+        let network = self.of;
+        let switches = network.switches.as_slice();
+        let sections = Amount(usize::from(network.vocabulary.objects), "section");
+        writeln!(f, "network of {sections}")?;
+        if switches.is_empty() {
+            writeln!(f, "switches: none")?;
+        } else {
+            writeln!(f, "switches: {}", switches.len())?;
         }
-        show_predicate(page, words, p)?;
-        say(page, " of ")?;
-        // the byte of an arity is that number
-        let taken = words.vocabulary.arities[p as usize].byte(0);
-        count(page, taken as u16, "object", "objects")?;
+        write_switches(f, switches)?;
+        write!(f, "fed: ")?;
+        write_fed(f, network)?;
+        writeln!(f)
+    }
+}
+
+// Writes a line for each switch.
+fn write_switches<W: fmt::Write>(f: &mut fmt::Formatter<W>, switches: &[Switch]) -> fmt::Result {
+    for (k, switch) in switches.iter().enumerate() {
+        let from = switch.from;
+        let to = switch.to;
+        writeln!(f, "  switch {k} joins sections {from} and {to}")?;
     }
     Ok(())
 }
 
-// Adds the lines of each operator of a table.
-fn show_operators(page: &mut Vec<u8>, words: &Words, table: &ActionTable) -> Said {
-    for k in 0..table.count {
-        show_operator(page, words, k, &table.operators[k as usize])?;
+// Writes the sections of a network that are fed.
+// Not by `Words::list`, which takes a slice: sections are counted and not kept.
+fn write_fed<W: fmt::Write>(f: &mut fmt::Formatter<W>, network: &Network) -> fmt::Result {
+    let fed = Sections { bits: network.fed };
+    let mut sections = (0..network.vocabulary.objects).filter(|s| fed.has(*s));
+    let Some(first) = sections.next() else {
+        return f.write_str("no section");
+    };
+    write!(f, "section {first}")?;
+    for section in sections {
+        write!(f, ", section {section}")?;
     }
     Ok(())
+}
+
+// An action table is its objects, its predicates and its operators.
+impl fmt::Display for InWords<'_, ActionTable> {
+    fn fmt<W: fmt::Write>(&self, f: &mut fmt::Formatter<W>) -> fmt::Result {
+        let table = self.of;
+        let operators = table.operators.as_slice();
+        let objects = Amount(usize::from(table.vocabulary.objects), "object");
+        write!(f, "action table over {objects}\npredicates: ")?;
+        self.write_predicates(f)?;
+        writeln!(f)?;
+        if operators.is_empty() {
+            return writeln!(f, "operators: none");
+        }
+        self.write_operators(f, operators)
+    }
 }
 
 // The parameters of an operator that has so many.
+// Three fixed texts, printed as they stand: a list with commas, or a type to display, would be longer.
 fn parameters(count: u8) -> &'static str
     ensures { result.now ≡ parameter_names count }
 {
@@ -120,17 +93,35 @@ fn parameters(count: u8) -> &'static str
     }
 }
 
-// Adds the lines of operator k: its parameters, what it needs and what it makes.
-fn show_operator(page: &mut Vec<u8>, words: &Words, k: u8, operator: &Operator) -> Said {
-    let needs = operator.preconditions as usize;
-    let all = needs + operator.effects as usize;
-    say(page, "operator ")?;
-    number(page, k as u16)?;
-    say(page, " (")?;
-    say(page, parameters(operator.parameters))?;
-    say(page, ")\n  needs ")?;
-    list(page, words, &operator.literals[0..needs], "nothing")?;
-    say(page, "\n  makes ")?;
-    list(page, words, &operator.literals[needs..all], "nothing")?;
-    say(page, "\n")
+impl InWords<'_, ActionTable> {
+    // Writes the predicates, each with the number of objects that it takes.
+    // Not by `Words::list`, which takes a slice: predicates are counted and not kept, only their arities are.
+    fn write_predicates<W: fmt::Write>(&self, f: &mut fmt::Formatter<W>) -> fmt::Result {
+        let arities = self.of.vocabulary.arities.as_slice();
+        for (p, arity) in (0u8..).zip(arities) {
+            if p > 0 {
+                f.write_str(", ")?;
+            }
+            let objects = Amount(*arity as usize, "object");
+            write!(f, "{} of {objects}", self.words.say(&Predicate(p)))?;
+        }
+        Ok(())
+    }
+
+    // Writes the lines of each operator: its parameters, what it needs and what it makes.
+    fn write_operators<W: fmt::Write>(
+        &self,
+        f: &mut fmt::Formatter<W>,
+        operators: &[Operator],
+    ) -> fmt::Result {
+        for (k, operator) in operators.iter().enumerate() {
+            let parameters = parameters(operator.parameters);
+            writeln!(f, "operator {k} ({parameters})")?;
+            let needed = self.words.list(operator.needs.as_slice(), "nothing");
+            writeln!(f, "  needs {needed}")?;
+            let made = self.words.list(operator.effects.as_slice(), "nothing");
+            writeln!(f, "  makes {made}")?;
+        }
+        Ok(())
+    }
 }

@@ -1,36 +1,43 @@
 // Rules in words.
-ghost use Rattle.std.specs.Prelude.{◌≡◌, ◌<◌};
+ghost use Rattle.std.specs.Prelude.{◌≡◌, ◌<◌, length, Some};
+ghost use Rattle.std.specs.Fmt.{WritesOnOk};
 ghost use Rattle.inspect.specs.Names.{word_of};
+ghost use Rattle.inspect.specs.Formulas.{leaf_text, part_text, rules_text, table_text};
 
-use crate::page::{Said, count, number, say};
-use crate::words::{Worded, Words, show_atom, show_term, show_variable};
+use crate::amount::Amount;
+use crate::words::{InWords, Words};
 use books::chart::Chart;
 use books::formula::FormulaTable;
-use books::line::Line;
+use books::line::{BROKEN, Line};
 use books::node::Node;
 use feeder::tables::RuleTable;
-use model::term::{Atom, Term};
+use std::fmt;
 
-// Adds the rules.
-pub(crate) fn show_rules(page: &mut Vec<u8>, words: &Words, rules: &RuleTable) -> Said {
-    match rules {
-        RuleTable::Formula(table) => {
-            say(page, "rules: a formula of ")?;
-            count(page, table.count as u16, "node", "nodes")?;
-            say(page, "\n  ")?;
-            show_formula(page, words, table, table.count - 1)?;
-            say(page, "\n")
-        }
-        RuleTable::Chart(chart) => {
-            say(page, "rules: a chart of ")?;
-            count(page, chart.count as u16, "line", "lines")?;
-            say(page, "\n")?;
-            show_lines(page, words, chart)
+impl fmt::Display for InWords<'_, RuleTable> {
+    ghost output = { λ x. rules_text x.words.now x.of.now };
+
+    fn fmt<W: fmt::Write>(&self, f: &mut fmt::Formatter<W>) -> fmt::Result {
+        let rules = self.of;
+        match rules {
+            RuleTable::Formula(table) => {
+                let nodes = Amount(table.nodes.len(), "node");
+                let formula = self.words.say(table);
+                writeln!(f, "rules: a formula of {nodes}\n  {formula}")
+            }
+            RuleTable::Chart(chart) => {
+                let lines = Amount(chart.lines.len(), "line");
+                writeln!(f, "rules: a chart of {lines}")?;
+                for line in chart.lines.as_slice() {
+                    write!(f, "{}", self.words.say(line))?;
+                }
+                Ok(())
+            }
         }
     }
 }
 
 // The word of a node, with the spaces between it and the node's parts. Nodes that hold an atom or two terms have none.
+// A fixed text and no `Display`: it is printed as it stands, between other things.
 fn word(node: Node) -> &'static str
     ensures { result.now ≡ word_of node }
 {
@@ -50,74 +57,68 @@ fn word(node: Node) -> &'static str
     }
 }
 
-// Adds the formula of node i, so that it reads back in one way only: AND, OR and UNTIL stand between their parts, with
-// brackets around the whole, and every other word stands before its parts. So it is seen where each part ends, and the
-// body of a quantifier needs no brackets of its own.
-fn show_formula(page: &mut Vec<u8>, words: &Words, table: &FormulaTable, i: u8) -> Said
-    requires { i < table.now.count }
+// Writes a node that has no parts.
+fn write_leaf<W: fmt::Write>(f: &mut fmt::Formatter<W>, words: &Words, node: Node) -> fmt::Result
+    ensures { WritesOnOk W.write_str_gives f.old result (leaf_text words.now node) f.new }
 {
-    let Some(node) = table.node(i) else {
-        unreachable()
-    };
     match node {
-        Node::True | Node::False => say(page, word(node)),
-        Node::Atom(atom) => show_atom(page, words, atom),
-        Node::Goal(atom) => show_goal(page, words, atom),
-        Node::Same(s, t) => show_same(page, s, t),
-        Node::Not(a) | Node::Next(a) | Node::Eventually(a) | Node::Always(a) => {
-            say(page, word(node))?;
-            show_formula(page, words, table, a)
-        }
-        Node::And(a, b) | Node::Or(a, b) | Node::Until(a, b) => {
-            say(page, "(")?;
-            show_formula(page, words, table, a)?;
-            say(page, word(node))?;
-            show_formula(page, words, table, b)?;
-            say(page, ")")
-        }
-        Node::ForAll(q) | Node::Exists(q) => {
-            say(page, word(node))?;
-            show_variable(page, q.variable)?;
-            say(page, " IN ")?;
-            show_formula(page, words, table, q.range)?;
-            say(page, ": ")?;
-            show_formula(page, words, table, q.body)
+        Node::Atom(atom) => write!(f, "{}", words.say(&atom)),
+        Node::Goal(atom) => write!(f, "GOAL({})", words.say(&atom)),
+        Node::Same(s, t) => write!(f, "{} = {}", words.say(&s), words.say(&t)),
+        _ => f.write_str(word(node)),
+    }
+}
+
+impl InWords<'_, FormulaTable> {
+    // Writes the formula of a node, so that it reads back in one way only: AND, OR and UNTIL stand between their parts,
+    // with brackets around the whole, and every other word stands before its parts. So it is seen where each part ends,
+    // and the body of a quantifier needs no brackets of its own.
+    fn write_part<W: fmt::Write>(&self, f: &mut fmt::Formatter<W>, i: u8) -> fmt::Result
+        requires { i < length self.now.of.now.nodes }
+        ensures { WritesOnOk W.write_str_gives f.old result (part_text self.now.words.now self.now.of.now i) f.new }
+    {
+        let Some(node) = self.of.node(i) else {
+            unreachable!()
+        };
+        match node {
+            Node::True | Node::False | Node::Atom(_) | Node::Goal(_) | Node::Same(_, _) => {
+                write_leaf(f, self.words, node)
+            }
+            Node::Not(a) | Node::Next(a) | Node::Eventually(a) | Node::Always(a) => {
+                f.write_str(word(node))?;
+                self.write_part(f, a)
+            }
+            Node::And(a, b) | Node::Or(a, b) | Node::Until(a, b) => {
+                f.write_str("(")?;
+                self.write_part(f, a)?;
+                f.write_str(word(node))?;
+                self.write_part(f, b)?;
+                f.write_str(")")
+            }
+            Node::ForAll(q) | Node::Exists(q) => {
+                write!(f, "{}x{} IN ", word(node), q.variable)?;
+                self.write_part(f, q.range)?;
+                f.write_str(": ")?;
+                self.write_part(f, q.body)
+            }
         }
     }
 }
 
-// Adds an atom that is asked of the goal.
-fn show_goal(page: &mut Vec<u8>, words: &Words, atom: Atom) -> Said {
-    say(page, "GOAL(")?;
-    show_atom(page, words, atom)?;
-    say(page, ")")
-}
+impl fmt::Display for InWords<'_, FormulaTable> {
+    ghost output = { λ x. Some (table_text x.words.now x.of.now) };
 
-// Adds that two terms are the same object.
-fn show_same(page: &mut Vec<u8>, s: Term, t: Term) -> Said {
-    show_term(page, s)?;
-    say(page, " = ")?;
-    show_term(page, t)
-}
-
-// Adds a line for each line of a chart.
-fn show_lines(page: &mut Vec<u8>, words: &Words, chart: &Chart) -> Said {
-    for line in &chart.lines[0..chart.count as usize] {
-        show_line(page, words, line)?;
+    fn fmt<W: fmt::Write>(&self, f: &mut fmt::Formatter<W>) -> fmt::Result {
+        self.write_part(f, self.of.nodes.len() as u8 - 1)
     }
-    Ok(())
 }
 
-// Adds one line of a chart.
-fn show_line(page: &mut Vec<u8>, words: &Words, line: &Line) -> Said {
-    say(page, "  from step ")?;
-    number(page, line.from as u16)?;
-    say(page, " to step ")?;
-    number(page, line.to as u16)?;
-    if line.to == 16 {
-        say(page, " (broken)")?;
+// The line of the step that is broken says so.
+impl fmt::Display for InWords<'_, Line> {
+    fn fmt<W: fmt::Write>(&self, f: &mut fmt::Formatter<W>) -> fmt::Result {
+        let Line { from, literal, to } = *self.of;
+        let broken = if to == BROKEN { " (broken)" } else { "" };
+        let literal = self.words.say(&literal);
+        writeln!(f, "  from step {from} to step {to}{broken} where {literal}")
     }
-    say(page, " where ")?;
-    line.literal.show(page, words)?;
-    say(page, "\n")
 }

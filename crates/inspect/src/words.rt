@@ -1,16 +1,16 @@
 // Words for what a feeder speaks of: terms, atoms, facts and literals.
-ghost use Rattle.std.specs.Prelude.{◌≡◌};
+ghost use Rattle.std.specs.Prelude.{◌≡◌, Some};
 ghost use Rattle.feeder.specs.Tables.{plant_kind, plant_words};
 ghost use Rattle.inspect.specs.Names.{network_name};
+ghost use Rattle.inspect.specs.Texts.{atom_text, lifted_text, predicate_text, sign_word, term_text};
 
-use crate::page::{Said, number, say};
 use feeder::header::PlantKind;
 use feeder::tables::PlantTable;
 use model::fact::{Fact, Literal, Sign};
-use model::picture::Picture;
 use model::term::{Atom, Term};
 use model::vocabulary::{Arity, Vocabulary};
 use plants::literal::LiftedLiteral;
+use std::fmt;
 
 // What it takes to put facts into words: the objects and predicates, and the kind of plant, which names the predicates.
 #[derive(Clone, Copy)]
@@ -19,12 +19,26 @@ pub(crate) struct Words {
     pub(crate) kind: PlantKind,
 }
 
-impl Words {
-    // The words of a plant.
-    pub(crate) fn of(plant: &PlantTable) -> Words
-        ensures vocabulary { result.vocabulary ≡ plant_words plant.now }
-        ensures kind { result.kind ≡ plant_kind plant.now }
-    {
+// A thing and the words for it, which is how a thing is printed.
+#[derive(Clone, Copy)]
+pub(crate) struct InWords<'a, T> {
+    pub(crate) words: &'a Words,
+    pub(crate) of: &'a T,
+}
+
+// Things and the words for them, and a text for no things.
+#[derive(Clone, Copy)]
+pub(crate) struct Listed<'a, T> {
+    words: &'a Words,
+    things: &'a [T],
+    none: &'a str,
+}
+
+// The words of a plant.
+impl From<&PlantTable> for Words {
+    ghost from_gives = { λ plant words. (words.vocabulary ≡ plant_words plant.now) × (words.kind ≡ plant_kind plant.now) };
+
+    fn from(plant: &PlantTable) -> Words {
         Words {
             vocabulary: plant.vocabulary(),
             kind: plant.kind(),
@@ -32,7 +46,31 @@ impl Words {
     }
 }
 
+impl Words {
+    // A thing in these words.
+    pub(crate) fn say<'a, T>(&'a self, of: &'a T) -> InWords<'a, T>
+        ensures words { result.words.now ≡ self.now }
+        ensures of { result.of.now ≡ of.now }
+    {
+        InWords { words: self, of }
+    }
+
+    // Things in these words.
+    pub(crate) fn list<'a, T>(&'a self, things: &'a [T], none: &'a str) -> Listed<'a, T> {
+        Listed {
+            words: self,
+            things,
+            none,
+        }
+    }
+}
+
+// A predicate, by its number.
+#[derive(Clone, Copy)]
+pub(crate) struct Predicate(pub(crate) u8);
+
 // The name of a predicate of a network.
+// By number, as records name predicates: a network has just three, whose fixed texts are printed as they stand.
 fn network_name(predicate: u8) -> &'static str
     ensures { result.now ≡ network_name predicate }
 {
@@ -43,108 +81,98 @@ fn network_name(predicate: u8) -> &'static str
     }
 }
 
-// Adds the name of a predicate.
-pub(crate) fn show_predicate(page: &mut Vec<u8>, words: &Words, predicate: u8) -> Said {
-    match words.kind {
-        PlantKind::Network => say(page, network_name(predicate)),
-        PlantKind::Actions => {
-            say(page, "p")?;
-            number(page, predicate as u16)
+impl fmt::Display for InWords<'_, Predicate> {
+    ghost output = { λ x. Some (predicate_text x.words.now x.of.now.0) };
+
+    fn fmt<W: fmt::Write>(&self, f: &mut fmt::Formatter<W>) -> fmt::Result {
+        let Predicate(number) = *self.of;
+        match self.words.kind {
+            PlantKind::Network => f.write_str(network_name(number)),
+            PlantKind::Actions => write!(f, "p{number}"),
         }
     }
 }
 
-// Adds a variable.
-pub(crate) fn show_variable(page: &mut Vec<u8>, variable: u8) -> Said {
-    say(page, "x")?;
-    number(page, variable as u16)
-}
+impl fmt::Display for InWords<'_, Term> {
+    ghost output = { λ x. Some (term_text x.of.now) };
 
-// Adds a term.
-pub(crate) fn show_term(page: &mut Vec<u8>, term: Term) -> Said {
-    match term {
-        Term::Object(o) => number(page, o as u16),
-        Term::Variable(v) => show_variable(page, v),
-    }
-}
-
-// Adds an atom: its predicate, and in brackets the terms that the predicate takes.
-pub(crate) fn show_atom(page: &mut Vec<u8>, words: &Words, atom: Atom) -> Said {
-    show_predicate(page, words, atom.predicate)?;
-    match words.vocabulary.arity(atom.predicate) {
-        None | Some(Arity::Zero) => Ok(()),
-        Some(Arity::One) => {
-            say(page, "(")?;
-            show_term(page, atom.first)?;
-            say(page, ")")
-        }
-        Some(Arity::Two) => {
-            say(page, "(")?;
-            show_term(page, atom.first)?;
-            say(page, ", ")?;
-            show_term(page, atom.second)?;
-            say(page, ")")
+    fn fmt<W: fmt::Write>(&self, f: &mut fmt::Formatter<W>) -> fmt::Result {
+        match *self.of {
+            Term::Object(number) => write!(f, "{number}"),
+            Term::Variable(number) => write!(f, "x{number}"),
         }
     }
 }
 
-// Adds the word for a sign, which stands before an atom.
-fn show_sign(page: &mut Vec<u8>, sign: Sign) -> Said {
-    match sign {
-        Sign::Negative => say(page, "not "),
-        Sign::Positive => Ok(()),
+// An atom is its predicate, and in brackets the terms that the predicate takes.
+impl fmt::Display for InWords<'_, Atom> {
+    ghost output = { λ x. Some (atom_text x.words.now x.of.now) };
+
+    fn fmt<W: fmt::Write>(&self, f: &mut fmt::Formatter<W>) -> fmt::Result {
+        let words = self.words;
+        let atom = self.of;
+        let predicate = Predicate(atom.predicate);
+        let predicate = words.say(&predicate);
+        let first = words.say(&atom.first);
+        let second = words.say(&atom.second);
+        match words.vocabulary.arity(atom.predicate) {
+            None | Some(Arity::Zero) => write!(f, "{predicate}"),
+            Some(Arity::One) => write!(f, "{predicate}({first})"),
+            Some(Arity::Two) => write!(f, "{predicate}({first}, {second})"),
+        }
     }
 }
 
-// What can be put into words and stand in a list.
-pub(crate) trait Worded {
-    // Adds it to a page.
-    fn show(&self, page: &mut Vec<u8>, words: &Words) -> Said;
-}
-
-impl Worded for Fact {
-    fn show(&self, page: &mut Vec<u8>, words: &Words) -> Said {
-        match words.vocabulary.atom(*self) {
-            Some(atom) => show_atom(page, words, atom),
+// No `output` here, nor where facts are listed: `atom` is held to answer some atom of a fact, not which.
+impl fmt::Display for InWords<'_, Fact> {
+    fn fmt<W: fmt::Write>(&self, f: &mut fmt::Formatter<W>) -> fmt::Result {
+        match self.words.vocabulary.atom(*self.of) {
+            Some(atom) => write!(f, "{}", self.words.say(&atom)),
             // no fact of a feeder comes here
-            None => {
-                say(page, "fact ")?;
-                number(page, self.number)
-            }
+            None => write!(f, "fact {}", self.of.number),
         }
     }
 }
 
-impl Worded for Literal {
-    fn show(&self, page: &mut Vec<u8>, words: &Words) -> Said {
-        show_sign(page, self.sign)?;
-        self.fact.show(page, words)
+// The word for a sign, which stands before an atom.
+// A fixed text and no `Display`: it is printed as it stands, between other things.
+fn sign_word(sign: Sign) -> &'static str
+    ensures { result.now ≡ sign_word sign }
+{
+    match sign {
+        Sign::Negative => "not ",
+        Sign::Positive => "",
     }
 }
 
-impl Worded for LiftedLiteral {
-    fn show(&self, page: &mut Vec<u8>, words: &Words) -> Said {
-        show_sign(page, self.sign)?;
-        show_atom(page, words, self.atom)
+impl fmt::Display for InWords<'_, Literal> {
+    fn fmt<W: fmt::Write>(&self, f: &mut fmt::Formatter<W>) -> fmt::Result {
+        let sign = sign_word(self.of.sign);
+        write!(f, "{sign}{}", self.words.say(&self.of.fact))
     }
 }
 
-// Adds things with commas between them, or a text where there are none.
-pub(crate) fn list<T: Worded>(page: &mut Vec<u8>, words: &Words, things: &[T], none: &str) -> Said {
-    if things.is_empty() {
-        return say(page, none);
+impl fmt::Display for InWords<'_, LiftedLiteral> {
+    ghost output = { λ x. Some (lifted_text x.words.now x.of.now) };
+
+    fn fmt<W: fmt::Write>(&self, f: &mut fmt::Formatter<W>) -> fmt::Result {
+        let sign = sign_word(self.of.sign);
+        write!(f, "{sign}{}", self.words.say(&self.of.atom))
     }
-    for (k, thing) in things.iter().enumerate() {
-        if k > 0 {
-            say(page, ", ")?;
+}
+
+impl<'a, T> fmt::Display for Listed<'a, T>
+where
+    InWords<'a, T>: fmt::Display,
+{
+    fn fmt<W: fmt::Write>(&self, f: &mut fmt::Formatter<W>) -> fmt::Result {
+        let Some((first, others)) = self.things.split_first() else {
+            return f.write_str(self.none);
+        };
+        write!(f, "{}", self.words.say(first))?;
+        for thing in others {
+            write!(f, ", {}", self.words.say(thing))?;
         }
-        thing.show(page, words)?;
+        Ok(())
     }
-    Ok(())
-}
-
-// Adds the facts of a picture in their order.
-pub(crate) fn show_picture(page: &mut Vec<u8>, words: &Words, picture: &Picture) -> Said {
-    let all = picture.members();
-    list(page, words, &all.facts[0..all.count as usize], "none")
 }

@@ -1,4 +1,5 @@
 -- Assignments one over the other: objects put in first, and then those of a second assignment.
+use Rattle.std.proofs.Common.{rules}
 use Rattle.std.proofs.Common.{◌≡◌, ℕ, Bool, true, false, cond, eqb, Some, None, Option, refl}
 use mathlib.Core.Path.{fun_ext}
 use Rattle.model.specs.declared.term.Atom.{Atom}
@@ -45,10 +46,7 @@ put_put_term env outer (Variable v) = at (env v)
     at (Some o) = refl
 
 pub put_put_atom : (env outer : Assignment) (a : Atom) → put_atom outer (put_atom env a) ≡ put_atom (over env outer) a
-put_put_atom env outer a =
-    let p = put_put_term env outer a.first in
-    let q = put_put_term env outer a.second in
-    cc
+put_put_atom env outer a = search rules
 
 pub object_put : (env outer : Assignment) (t : Term) → object_under outer (put_term env t) ≡ object_under (over env outer) t
 object_put env outer (Object o) = refl
@@ -59,7 +57,4 @@ object_put env outer (Variable v) = at (env v)
     at (Some o) = refl
 
 pub ground_put : (env outer : Assignment) (a : Atom) → ground outer (put_atom env a) ≡ ground (over env outer) a
-ground_put env outer a =
-    let p = object_put env outer a.first in
-    let q = object_put env outer a.second in
-    cc
+ground_put env outer a = search rules

@@ -1,6 +1,8 @@
 -- What formulas mean that come out of a progression: constants, connectives just formed, and formulas with objects put in.
+use Rattle.std.proofs.Common.{rules}
+use Rattle.std.proofs.lemmas.Grind.{common_steps}
 use Rattle.std.proofs.Common.{◌≡◌, ℕ, zero, suc, ◌<◌, Bool, true, false, ◌⊎◌, List, [], ◌∷◌, ◌++◌, map, sym, refl, ap, ◌∙◌, subst, inl, inr, ⊎_elim, arith}
-use Rattle.books.specs.Trees.{Formula, conjunction, disjunction, falsity, negation, truth}
+use Rattle.books.specs.Trees.{Formula, conjunction, falsity, negation, truth}
 use Rattle.model.specs.declared.goal.Goal.{Goal}
 use Rattle.model.specs.declared.picture.Picture.{Picture}
 use Rattle.model.specs.declared.vocabulary.Vocabulary.{Vocabulary}
@@ -11,7 +13,7 @@ use Rattle.ltl.specs.Assignments.{Assignment}
 use Rattle.ltl.specs.Laws.{Iff}
 use Rattle.ltl.specs.Progression.{Standing, all_of, any_of, both, constant, either, opposite, opposite_by, standing}
 use Rattle.ltl.specs.Truth.{Holds}
-use Rattle.ltl.proofs.Simplifying.{both_falsity, both_pending, both_truth, by_cases, either_falsity, either_pending, either_truth}
+use Rattle.ltl.proofs.Simplifying.{both_falsity, both_pending, both_truth, by_cases, either_falsity}
 
 pub iff_chain : {P Q R : Type 0} → Iff P Q → Iff Q R → Iff P R
 iff_chain a b = (λ p. b.0 (a.0 p), λ r. a.1 (b.1 r))
@@ -51,16 +53,7 @@ module _ (v : Vocabulary) (g : Goal) (w : ℕ → Picture) where
 
     pub holds_either : (f h : Formula) → Iff (Holds v g w env f i ⊎ Holds v g w env h i) (Holds v g w env (either f h) i)
     unfolding Holds either
-    holds_either f h =
-        by_cases (λ f. Iff (Holds v g w env f i ⊎ Holds v g w env h i) (Holds v g w env (either f h) i))
-        (λ p. tt, λ p. inl tt)
-        (λ p. ⊎_elim (λ z. absurd z) (λ x. x) p, λ p. inr p)
-        (λ f p. by_cases (λ h. Iff (Holds v g w env f i ⊎ Holds v g w env h i) (Holds v g w env (either f h) i))
-        (iff_chain {Q = Unit {0}} (λ p. tt, λ p. inr tt) (iff_back (same_formula env i (either f truth) truth (either_truth f))))
-        (iff_chain {Q = Holds v g w env f i} (λ p. ⊎_elim (λ x. x) (λ z. absurd z) p, λ p. inl p) (iff_back (same_formula env i (either f falsity) f (either_falsity f))))
-        (λ h r. iff_back (same_formula env i (either f h) (disjunction f h) (either_pending f h p r)))
-        h)
-        f
+    holds_either f h = grind (arith, common_steps)
 
     pub holds_opposite : (f : Formula) → Iff (Holds v g w env f i → ⊥) (Holds v g w env (opposite f) i)
     unfolding Holds opposite
@@ -123,7 +116,7 @@ module _ (v : Vocabulary) (g : Goal) (w : ℕ → Picture) where
 
       pub holds_any : (n : ℕ) (test : ℕ → Bool) → Iff ((o : ℕ) × ((o < n) × ((test o ≡ true) × Holds v g w env (part o) i))) (Holds v g w env (any_of (map part (chosen n test))) i)
       unfolding Holds chosen
-      holds_any zero test = (λ p. let h = p.1.0 in absurd (omega arith), λ z. absurd z)
+      holds_any zero test = search rules
       holds_any (suc n) test =
           let below = holds_any n test in
           ⊎_elim

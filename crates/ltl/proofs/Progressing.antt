@@ -1,13 +1,13 @@
 -- What is known where nothing is known behind the pictures is what progression through them gives: a formula is known to be
 -- TRUE, or FALSE, at a position just where progressing it through the pictures from there on gives TRUE, or FALSE.
-use Rattle.std.proofs.Common.{◌≡◌, ℕ, zero, suc, ◌+◌, ◌-◌, ◌<◌, ◌≤◌, Bool, true, false, not, ◌&&◌, ◌||◌, eqb, ltb, List, ◌∷◌, length, get_or, drop, sym, refl, ap, ◌∙◌, ⊎_elim, add-one, arith}
+use Rattle.std.proofs.lemmas.Grind.{common_steps}
+use Rattle.std.proofs.Common.{◌≡◌, ℕ, zero, suc, ◌+◌, ◌-◌, ◌<◌, ◌≤◌, Bool, true, false, not, ◌&&◌, ◌||◌, eqb, List, ◌∷◌, length, get_or, drop, sym, refl, ap, ◌∙◌, add-one, arith}
 use mathlib.Core.Path.{fun_ext}
 use Rattle.books.specs.Trees.{Formula, always, atom, conjunction, disjunction, eventually, exists, falsity, for_all, goal, negation, next, same, truth, until}
 use Rattle.model.specs.declared.goal.Goal.{Goal}
 use Rattle.model.specs.declared.picture.Picture.{Picture}
 use Rattle.model.specs.declared.vocabulary.Vocabulary.{Vocabulary}
-use Rattle.std.proofs.lemmas.List.{drop_all, drop_more}
-use Rattle.std.proofs.lemmas.Bool.{cases_lt, cond-false, cond-true, le-ltb, lt-ltb}
+use Rattle.std.proofs.lemmas.List.{drop_more}
 use Rattle.ltl.specs.Assignments.{Assignment, bind, object_under, unassigned}
 use Rattle.ltl.specs.Classes.{Class, ahead, all_under, class_at, unknown, some_under, told, within}
 use Rattle.ltl.specs.Progression.{both, constant, either, opposite, picked, progress_through, progressed, put}
@@ -19,10 +19,7 @@ use Rattle.ltl.proofs.Standing.{class_all, class_any, class_as, class_both, clas
 
 -- a factor that two have in common
 shared : (a b c : Bool) → (a && (b || c)) ≡ ((b && a) || (a && c))
-shared true true c = refl
-shared true false c = refl
-shared false true c = refl
-shared false false c = refl
+shared a b c = grind (arith, common_steps)
 
 module _ (v : Vocabulary) (g : Goal) (qs : List Picture) (none : Picture) where
   -- the picture at a position
@@ -36,7 +33,7 @@ module _ (v : Vocabulary) (g : Goal) (qs : List Picture) (none : Picture) where
   -- after the last picture nothing has happened to it
   left_end : (env : Assignment) (f : Formula) (i : ℕ) → length qs ≤ i → left env f i ≡ put env f
   unfolding progress_through
-  left_end env f i h = ap (λ (ps : List Picture). progress_through v g ps (put env f)) (drop_all i qs h)
+  left_end env f i h = grind (arith, common_steps)
 
   -- the picture at the position is taken in first
   left_now : (env : Assignment) (f : Formula) (i : ℕ) → i < length qs → left env f i ≡ progress_through v g (drop (suc i) qs) (progressed v g (at i) env f)
@@ -47,11 +44,7 @@ module _ (v : Vocabulary) (g : Goal) (qs : List Picture) (none : Picture) where
 
   -- a class is known within the pictures, and is open behind them
   split : (i : ℕ) (c d : Class) → (i < length qs → c ≡ d) → (length qs ≤ i → c ≡ unknown) → c ≡ within (length qs) i d
-  split i c d a b =
-      ⊎_elim
-      (λ h. a h ∙ sym (cond-true (ltb i (length qs)) d unknown (lt-ltb i (length qs) h)))
-      (λ h. b h ∙ sym (cond-false (ltb i (length qs)) d unknown (le-ltb i (length qs) h)))
-      (cases_lt i (length qs))
+  split i c d a b = grind (arith, common_steps)
 
   abbrev classes : Assignment → Formula → ℕ → Class
   classes env f i = class_at v g false (length qs) at env f i

@@ -1,21 +1,20 @@
 -- Where the last picture stays, everything is known: a formula is known to be TRUE at a position just where it holds there,
 -- and known to be FALSE just where it is not known to be TRUE. From the last position on nothing changes any more.
+use Rattle.std.proofs.lemmas.Bool.Decides.{nat_tests}
+use Rattle.std.proofs.lemmas.Grind.{common_steps}
 use Rattle.std.proofs.Common.{◌≡◌, ℕ, zero, suc, ◌+◌, ◌-◌, ◌<◌, ◌≤◌, Bool, true, false, not, ◌&&◌, ◌||◌, eqb, ltb, Decides, sym, refl, ap, ◌∙◌, subst, inl, inr, ⊎_elim, arith}
 use Rattle.books.specs.Trees.{Formula, always, atom, conjunction, disjunction, eventually, exists, falsity, for_all, goal, negation, next, same, truth, until}
 use Rattle.model.specs.declared.goal.Goal.{Goal}
 use Rattle.model.specs.declared.picture.Picture.{Picture}
 use Rattle.model.specs.declared.vocabulary.Vocabulary.{Vocabulary}
-use Rattle.std.proofs.lemmas.Bool.{cases_Bool, cases_eq, cases_lt, cond-true, eq-eqb, eqb-true, false≢true, lt-ltb, or_cases, or_left, or_right, and_parts, and_from}
-use Rattle.std.proofs.lemmas.Bool.Decides.{Decides-and, Decides-at, Decides-like, Decides-not, Decides-or}
+use Rattle.std.proofs.Math.Bool.{and_comm, and-false, and-true, not-not, or_comm, or-false}
+use Rattle.std.proofs.lemmas.Bool.{cases_lt, cond-true, false≢true, lt-ltb}
+use Rattle.std.proofs.lemmas.Bool.Decides.{Decides-and, Decides-at, Decides-below_and, Decides-below_or, Decides-like, Decides-not, Decides-or}
 use Rattle.ltl.specs.Assignments.{Assignment, bind, object_under}
 use Rattle.ltl.specs.Classes.{Class, ahead, all_under, class_at, following, some_under, told, unknown, within}
 use Rattle.ltl.specs.Laws.{Iff}
 use Rattle.ltl.specs.Truth.{Holds, atom_true, goal_true, picks}
 use Rattle.ltl.proofs.Sound.{always_now, eventually_now, until_now}
-
-not_not : (b : Bool) → not (not b) ≡ b
-not_not true = refl
-not_not false = refl
 
 not_and : (a b : Bool) → not (a && b) ≡ (not a || not b)
 not_and true b = refl
@@ -25,13 +24,16 @@ not_or : (a b : Bool) → not (a || b) ≡ (not a && not b)
 not_or true b = refl
 not_or false b = refl
 
+itself : (b : Bool) → Decides b (b ≡ true)
+itself b = (λ e. e, λ e. e)
+
 module _ (v : Vocabulary) (g : Goal) (w : ℕ → Picture) (last : ℕ) (steady : (j : ℕ) → last ≤ j → w j ≡ w last) where
   -- from the last position on, truth does not change
   pub stays_true : (f : Formula) (env : Assignment) (i j : ℕ) → last ≤ i → last ≤ j → Holds v g w env f i → Holds v g w env f j
   unfolding Holds
   stays_true truth env i j a b p = p
   stays_true falsity env i j a b p = p
-  stays_true (atom t) env i j a b p = ap (λ (q : Picture). atom_true v q env t) (steady j b ∙ sym (steady i a)) ∙ p
+  stays_true (atom t) env i j a b p = grind (arith, common_steps)
   stays_true (goal t) env i j a b p = p
   stays_true (same s t) env i j a b p = p
   stays_true (negation f) env i j a b p = λ q. p (stays_true f env j i b a q)
@@ -129,7 +131,7 @@ module _ (v : Vocabulary) (g : Goal) (w : ℕ → Picture) (last : ℕ) (steady 
 
   -- within the positions, a class is as it is
   lost_inside : (i : ℕ) (c : Class) → i ≤ last → c.lost ≡ not c.sure → (within (suc last) i c).lost ≡ not (within (suc last) i c).sure
-  lost_inside i c h e = ap (λ (x : Class). x.lost) (inside i c h) ∙ e ∙ ap (λ (x : Class). not x.sure) (sym (inside i c h))
+  lost_inside i c h e = grind (arith, common_steps)
 
   after : (i : ℕ) → i ≤ last → following true (suc last) i ≤ last
   after i h = omega arith
@@ -142,7 +144,7 @@ module _ (v : Vocabulary) (g : Goal) (w : ℕ → Picture) (last : ℕ) (steady 
   two_valued (goal t) env i h = lost_inside i (told (goal_true v g env t)) h refl
   two_valued (same s t) env i h = lost_inside i (told (eqb (object_under env s) (object_under env t))) h refl
   two_valued (negation f) env i h =
-      lost_inside i _ h (sym (ap not (two_valued f env i h) ∙ not_not (sure_at env f i)))
+      lost_inside i _ h (sym (ap not (two_valued f env i h) ∙ not-not (sure_at env f i)))
   two_valued (conjunction f k) env i h =
       lost_inside i _ h
       (ap (λ (x : Bool). x || lost_at env k i) (two_valued f env i h) ∙ ap (λ (x : Bool). not (sure_at env f i) || x) (two_valued k env i h) ∙ sym (not_and (sure_at env f i) (sure_at env k i)))
@@ -178,18 +180,6 @@ module _ (v : Vocabulary) (g : Goal) (w : ℕ → Picture) (last : ℕ) (steady 
   unfolding Holds
   last_until f k env = (λ p. (last, (omega arith, (p, λ j a b. absurd (omega arith)))), λ p. let l = p.1.0 in stays_true k env p.0 last l (omega arith) p.1.1.0)
 
-  or_false : (b : Bool) → (b || false) ≡ b
-  or_false true = refl
-  or_false false = refl
-
-  and_true : (b : Bool) → (b && true) ≡ b
-  and_true true = refl
-  and_true false = refl
-
-  and_false : (b : Bool) → (b && false) ≡ false
-  and_false true = refl
-  and_false false = refl
-
   -- going on to the last position
   decides_eventually : (f : Formula) (env : Assignment) → ((j : ℕ) → j ≤ last → Decides (sure_at env f j) (Holds v g w env f j))
       → (m i : ℕ) → i + suc m ≡ suc last → Decides (ahead (suc m) false (λ j. true) (sure_at env f) i) (Holds v g w env (eventually f) i)
@@ -197,7 +187,7 @@ module _ (v : Vocabulary) (g : Goal) (w : ℕ → Picture) (last : ℕ) (steady 
   decides_eventually f env d zero i h =
       let e : i ≡ last = omega arith in
       subst (λ (j : ℕ). Decides (sure_at env f j || false) (Holds v g w env (eventually f) j)) (sym e)
-      (Decides-at (sure_at env f last || false) (sure_at env f last) (or_false (sure_at env f last))
+      (Decides-at (sure_at env f last || false) (sure_at env f last) (or-false (sure_at env f last))
       (Decides-like (sure_at env f last) (last_eventually f env).0 (last_eventually f env).1 (d last (omega arith))))
   decides_eventually f env d (suc m) i h =
       let now = eventually_now v g w f env i in
@@ -210,7 +200,7 @@ module _ (v : Vocabulary) (g : Goal) (w : ℕ → Picture) (last : ℕ) (steady 
   decides_always f env d zero i h =
       let e : i ≡ last = omega arith in
       subst (λ (j : ℕ). Decides (sure_at env f j && true) (Holds v g w env (always f) j)) (sym e)
-      (Decides-at (sure_at env f last && true) (sure_at env f last) (and_true (sure_at env f last))
+      (Decides-at (sure_at env f last && true) (sure_at env f last) (and-true (sure_at env f last))
       (Decides-like (sure_at env f last) (last_always f env).0 (last_always f env).1 (d last (omega arith))))
   decides_always f env d (suc m) i h =
       let now = always_now v g w f env i in
@@ -225,7 +215,7 @@ module _ (v : Vocabulary) (g : Goal) (w : ℕ → Picture) (last : ℕ) (steady 
       let q : i ≡ last = omega arith in
       subst (λ (j : ℕ). Decides (sure_at env k j || (sure_at env f j && false)) (Holds v g w env (until f k) j)) (sym q)
       (Decides-at (sure_at env k last || (sure_at env f last && false)) (sure_at env k last)
-      (ap (λ (b : Bool). sure_at env k last || b) (and_false (sure_at env f last)) ∙ or_false (sure_at env k last))
+      (ap (λ (b : Bool). sure_at env k last || b) (and-false (sure_at env f last)) ∙ or-false (sure_at env k last))
       (Decides-like (sure_at env k last) (last_until f k env).0 (last_until f k env).1 (e last (omega arith))))
   decides_until f k env d e (suc m) i h =
       let now = until_now v g w f k env i in
@@ -238,49 +228,29 @@ module _ (v : Vocabulary) (g : Goal) (w : ℕ → Picture) (last : ℕ) (steady 
   decides_all : (n : ℕ) (p t : ℕ → Bool) (P : ℕ → Type 0) → ((o : ℕ) → Decides (t o) (P o))
       → Decides (all_under n (λ o. not (p o) || t o)) ((o : ℕ) → o < n → p o ≡ true → P o)
   unfolding all_under
-  decides_all zero p t P d = (λ e o h. absurd (omega arith), λ q. refl)
-  decides_all (suc n) p t P d =
-      let below = decides_all n p t P d in (
-        λ e.
-            let q = and_parts (all_under n (λ o. not (p o) || t o)) (not (p n) || t n) e in
-            λ o h k. ⊎_elim
-            (λ z. subst P (sym z) ((d n).0 (met (p n) (t n) q.1 (ap p (sym z) ∙ k))))
-            (λ z. below.0 q.0 o (omega arith) k)
-            (cases_eq o n),
-        λ q. and_from (all_under n (λ o. not (p o) || t o)) (not (p n) || t n) (below.1 (λ o h. q o (omega arith)))
-            (⊎_elim (λ z. or_right (not (p n)) (t n) ((d n).1 (q n (omega arith) z))) (λ z. or_left (not (p n)) (t n) (ap not z)) (cases_Bool (p n))),
-      )
+  decides_all n p t P d =
+      Decides-below_and (λ o. not (p o) || t o) (λ o. p o ≡ true → P o) (λ m. all_under m (λ o. not (p o) || t o)) (λ o. picked (p o) (t o) (P o) (d o)) refl
+      (λ m. and_comm (all_under m (λ o. not (p o) || t o)) (not (p m) || t m)) n
     where
-      met : (a b : Bool) → (not a || b) ≡ true → a ≡ true → b ≡ true
-      met true b e k = e
-      met false b e k = absurd (false≢true k)
+      picked : (a b : Bool) (Q : Type 0) → Decides b Q → Decides (not a || b) (a ≡ true → Q)
+      picked true b Q e = (λ h _. e.0 h, λ q. e.1 (q refl))
+      picked false b Q e = (λ h z. absurd (false≢true z), λ q. refl)
 
   decides_some : (n : ℕ) (p t : ℕ → Bool) (P : ℕ → Type 0) → ((o : ℕ) → Decides (t o) (P o))
       → Decides (some_under n (λ o. p o && t o)) ((o : ℕ) × ((o < n) × ((p o ≡ true) × P o)))
   unfolding some_under
-  decides_some zero p t P d = (λ e. absurd (false≢true e), λ q. let h = q.1.0 in absurd (omega arith))
-  decides_some (suc n) p t P d =
-      let below = decides_some n p t P d in (
-        λ e. ⊎_elim
-            (λ a. let b = below.0 a in let h = b.1.0 in (b.0, (omega arith, b.1.1)))
-            (λ a. let b = and_parts (p n) (t n) a in (n, (omega arith, (b.0, (d n).0 b.1))))
-            (or_cases (some_under n (λ o. p o && t o)) (p n && t n) e),
-        λ q. let h = q.1.0 in ⊎_elim
-            (λ z. or_right (some_under n (λ o. p o && t o)) (p n && t n) (and_from (p n) (t n) (ap p (sym z) ∙ q.1.1.0) (ap t (sym z) ∙ (d q.0).1 q.1.1.1)))
-            (λ z. or_left (some_under n (λ o. p o && t o)) (p n && t n) (below.1 (q.0, (omega arith, q.1.1))))
-            (cases_eq q.0 n),
-      )
+  decides_some n p t P d =
+      Decides-like (some_under n (λ o. p o && t o)) (λ q. (q.0, (q.1, q.2))) (λ q. (q.0, q.1.0, q.1.1))
+      (Decides-below_or (λ o. p o && t o) (λ o. (p o ≡ true) × P o) (λ m. some_under m (λ o. p o && t o)) (λ o. Decides-and (p o) (t o) (itself (p o)) (d o)) refl
+      (λ m. or_comm (some_under m (λ o. p o && t o)) (p m && t m)) n)
 
   -- how many positions there are from one on
   turns : (P : ℕ → Type 0) (i : ℕ) → i ≤ last → P (suc (last - i)) → P (suc last - i)
-  turns P i h p = let e : suc (last - i) ≡ suc last - i = omega arith in subst P e p
+  turns P i h p = grind (arith, nat_tests)
 
   -- a class within the positions
   sure_inside : (P : Type 0) (i : ℕ) (c : Class) → i ≤ last → Decides c.sure P → Decides (within (suc last) i c).sure P
-  sure_inside P i c h d = Decides-at (within (suc last) i c).sure c.sure (ap (λ (x : Class). x.sure) (inside i c h)) d
-
-  itself : (b : Bool) → Decides b (b ≡ true)
-  itself b = (λ e. e, λ e. e)
+  sure_inside P i c h d = grind (arith, common_steps)
 
   pub known_truth : (f : Formula) (env : Assignment) (i : ℕ) → i ≤ last → Decides (sure_at env f i) (Holds v g w env f i)
   unfolding class_at Holds
@@ -288,10 +258,7 @@ module _ (v : Vocabulary) (g : Goal) (w : ℕ → Picture) (last : ℕ) (steady 
   known_truth falsity env i h = (λ e. absurd (false≢true e), λ z. absurd z)
   known_truth (atom t) env i h = sure_inside _ i (told (atom_true v (w i) env t)) h (itself (atom_true v (w i) env t))
   known_truth (goal t) env i h = sure_inside _ i (told (goal_true v g env t)) h (itself (goal_true v g env t))
-  known_truth (same s t) env i h =
-      let a = object_under env s in
-      let b = object_under env t in
-      sure_inside _ i (told (eqb a b)) h (λ e. eqb-true a b e, λ e. eq-eqb a b e)
+  known_truth (same s t) env i h = grind (arith, common_steps)
   known_truth (negation f) env i h =
       sure_inside _ i _ h (Decides-at (lost_at env f i) (not (sure_at env f i)) (two_valued f env i h) (Decides-not (sure_at env f i) (known_truth f env i h)))
   known_truth (conjunction f k) env i h = sure_inside _ i _ h (Decides-and (sure_at env f i) (sure_at env k i) (known_truth f env i h) (known_truth k env i h))

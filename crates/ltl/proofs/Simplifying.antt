@@ -1,12 +1,13 @@
 -- Simplified connectives: progression goes through them part by part, and a formula that comes out is TRUE or FALSE just
 -- where its parts say so.
-use Rattle.std.proofs.Common.{◌≡◌, ℕ, ◌⊎◌, List, [], ◌∷◌, map, sym, refl, ap, ◌∙◌, subst, inl, inr, ⊎_elim}
+use Rattle.std.proofs.Common.{rules}
+use Rattle.std.proofs.Common.{◌≡◌, ℕ, ◌⊎◌, List, [], ◌∷◌, map, refl, ap, ◌∙◌, inl, inr}
 use Rattle.books.specs.Trees.{Formula, always, atom, conjunction, disjunction, eventually, exists, falsity, for_all, goal, negation, next, same, truth, until}
 use Rattle.model.specs.declared.goal.Goal.{Goal}
 use Rattle.model.specs.declared.picture.Picture.{Picture}
 use Rattle.model.specs.declared.vocabulary.Vocabulary.{Vocabulary}
 use Rattle.ltl.specs.Assignments.{Assignment, unassigned}
-use Rattle.ltl.specs.Progression.{Standing, all_of, any_of, both, both_by, either, either_by, lost, opposite, opposite_by, pending, progress, progress_through, progressed, standing, sure}
+use Rattle.ltl.specs.Progression.{all_of, any_of, both, either, opposite, pending, progress, progress_through, progressed, standing}
 
 -- TRUE, FALSE, or neither
 pub seen : (f : Formula) → (f ≡ truth) ⊎ ((f ≡ falsity) ⊎ (standing f ≡ pending))
@@ -27,67 +28,45 @@ seen (exists range body x) = inr (inr refl)
 
 -- what holds of TRUE, of FALSE and of what is neither holds of every formula
 pub by_cases : (P : Formula → Type 0) → P truth → P falsity → ((f : Formula) → standing f ≡ pending → P f) → (f : Formula) → P f
-by_cases P t l p f = ⊎_elim (λ e. subst P (sym e) t) (⊎_elim (λ e. subst P (sym e) l) (λ e. p f e)) (seen f)
+by_cases P t l p f = search rules
 
 pub both_pending : (f g : Formula) → standing f ≡ pending → standing g ≡ pending → both f g ≡ conjunction f g
 unfolding both
-both_pending f g p q = ap (λ (s : Standing). both_by s (standing g) f g) p ∙ ap (λ (s : Standing). both_by pending s f g) q
+both_pending f g p q = cc
 
 pub both_truth : (f : Formula) → both f truth ≡ f
 unfolding both
-both_truth = by_cases (λ f. both f truth ≡ f) refl refl (λ f p. ap (λ (s : Standing). both_by s sure f truth) p)
+both_truth = search rules
 
 pub both_falsity : (f : Formula) → both f falsity ≡ falsity
 unfolding both
-both_falsity = by_cases (λ f. both f falsity ≡ falsity) refl refl (λ f p. ap (λ (s : Standing). both_by s lost f falsity) p)
+both_falsity = search rules
 
 pub either_pending : (f g : Formula) → standing f ≡ pending → standing g ≡ pending → either f g ≡ disjunction f g
 unfolding either
-either_pending f g p q = ap (λ (s : Standing). either_by s (standing g) f g) p ∙ ap (λ (s : Standing). either_by pending s f g) q
+either_pending f g p q = cc
 
 pub either_truth : (f : Formula) → either f truth ≡ truth
 unfolding either
-either_truth = by_cases (λ f. either f truth ≡ truth) refl refl (λ f p. ap (λ (s : Standing). either_by s sure f truth) p)
+either_truth = search rules
 
 pub either_falsity : (f : Formula) → either f falsity ≡ f
 unfolding either
-either_falsity = by_cases (λ f. either f falsity ≡ f) refl refl (λ f p. ap (λ (s : Standing). either_by s lost f falsity) p)
+either_falsity = search rules
 
 module _ (v : Vocabulary) (g : Goal) (q : Picture) (env : Assignment) where
   -- progression goes through a conjunction just formed, and through the others
   pub progressed_both : (f h : Formula) → progressed v g q env (both f h) ≡ both (progressed v g q env f) (progressed v g q env h)
   unfolding both progressed
-  progressed_both f h =
-      by_cases (λ f. progressed v g q env (both f h) ≡ both (progressed v g q env f) (progressed v g q env h))
-      refl
-      refl
-      (λ f p. by_cases (λ h. progressed v g q env (both f h) ≡ both (progressed v g q env f) (progressed v g q env h))
-      (ap (progressed v g q env) (both_truth f) ∙ sym (both_truth (progressed v g q env f)))
-      (ap (progressed v g q env) (both_falsity f) ∙ sym (both_falsity (progressed v g q env f)))
-      (λ h r. ap (progressed v g q env) (both_pending f h p r))
-      h)
-      f
+  progressed_both f h = search rules
 
   pub progressed_either : (f h : Formula) → progressed v g q env (either f h) ≡ either (progressed v g q env f) (progressed v g q env h)
   unfolding either progressed
-  progressed_either f h =
-      by_cases (λ f. progressed v g q env (either f h) ≡ either (progressed v g q env f) (progressed v g q env h))
-      refl
-      refl
-      (λ f p. by_cases (λ h. progressed v g q env (either f h) ≡ either (progressed v g q env f) (progressed v g q env h))
-      (ap (progressed v g q env) (either_truth f) ∙ sym (either_truth (progressed v g q env f)))
-      (ap (progressed v g q env) (either_falsity f) ∙ sym (either_falsity (progressed v g q env f)))
-      (λ h r. ap (progressed v g q env) (either_pending f h p r))
-      h)
-      f
+  progressed_either f h = search rules
 
   pub progressed_opposite : (f : Formula) → progressed v g q env (opposite f) ≡ opposite (progressed v g q env f)
   unfolding opposite progressed
-  progressed_opposite =
-      by_cases (λ f. progressed v g q env (opposite f) ≡ opposite (progressed v g q env f))
-      refl
-      refl
-      (λ f p. ap (λ (s : Standing). progressed v g q env (opposite_by s f)) p)
+  progressed_opposite = search rules
 
 module _ (v : Vocabulary) (g : Goal) where
   -- and so it does through any number of pictures

@@ -3,6 +3,7 @@ use Rattle.std.proofs.Common.{◌≡◌, ℕ, zero, suc, Bool, true, false, not,
 use Rattle.books.specs.Trees.{Formula, truth, falsity}
 use Rattle.model.specs.Pictures.{chosen}
 use Rattle.model.proofs.Chosen.{chosen_left, chosen_taken}
+use Rattle.std.proofs.Math.Bool.{and_assoc, and-true, or_assoc, or-false}
 use Rattle.std.proofs.lemmas.Bool.{cases_Bool}
 use Rattle.ltl.specs.Classes.{Class, all_under, unknown, some_under, told}
 use Rattle.ltl.specs.Progression.{Standing, all_of, any_of, both, both_by, constant, either, either_by, lost, opposite, opposite_by, pending, standing, sure}
@@ -69,50 +70,34 @@ pub class_constant : (b : Bool) → class_as (constant b) ≡ told b
 class_constant true = refl
 class_constant false = refl
 
-and_group : (a b c : Bool) → (a && (b && c)) ≡ ((a && b) && c)
-and_group true b c = refl
-and_group false b c = refl
-
-or_group : (a b c : Bool) → (a || (b || c)) ≡ ((a || b) || c)
-or_group true b c = refl
-or_group false b c = refl
-
-and_end : (a : Bool) → (a && true) ≡ a
-and_end true = refl
-and_end false = refl
-
-or_end : (a : Bool) → (a || false) ≡ a
-or_end true = refl
-or_end false = refl
-
 same_class : (a b c d : Bool) → a ≡ c → b ≡ d → ◌≡◌ {A = Class} (record { sure = a; lost = b }) (record { sure = c; lost = d })
 same_class a b c d p q = cc
 
 module _ (part : ℕ → Formula) where
   all_class_push : (os : List ℕ) (n : ℕ) → class_as (all_of (map part (os ++ (n ∷ [])))) ≡ meet (class_as (all_of (map part os))) (class_as (part n))
   all_class_push [] n =
-      let a = and_end (class_as (part n)).sure in
-      let b = or_end (class_as (part n)).lost in
+      let a = and-true (class_as (part n)).sure in
+      let b = or-false (class_as (part n)).lost in
       class_both (part n) truth ∙ (cc)
   all_class_push (o ∷ os) n =
       let whole = class_both (part o) (all_of (map part (os ++ (n ∷ [])))) in
       let rest = all_class_push os n in
       let front = class_both (part o) (all_of (map part os)) in
-      let a = and_group (class_as (part o)).sure (class_as (all_of (map part os))).sure (class_as (part n)).sure in
-      let b = or_group (class_as (part o)).lost (class_as (all_of (map part os))).lost (class_as (part n)).lost in
+      let a = and_assoc (class_as (part o)).sure (class_as (all_of (map part os))).sure (class_as (part n)).sure in
+      let b = or_assoc (class_as (part o)).lost (class_as (all_of (map part os))).lost (class_as (part n)).lost in
       whole ∙ ap (meet (class_as (part o))) rest ∙ (cc) ∙ ap (λ (k : Class). meet k (class_as (part n))) (sym front)
 
   any_class_push : (os : List ℕ) (n : ℕ) → class_as (any_of (map part (os ++ (n ∷ [])))) ≡ join (class_as (any_of (map part os))) (class_as (part n))
   any_class_push [] n =
-      let a = or_end (class_as (part n)).sure in
-      let b = and_end (class_as (part n)).lost in
+      let a = or-false (class_as (part n)).sure in
+      let b = and-true (class_as (part n)).lost in
       class_either (part n) falsity ∙ (cc)
   any_class_push (o ∷ os) n =
       let whole = class_either (part o) (any_of (map part (os ++ (n ∷ [])))) in
       let rest = any_class_push os n in
       let front = class_either (part o) (any_of (map part os)) in
-      let a = or_group (class_as (part o)).sure (class_as (any_of (map part os))).sure (class_as (part n)).sure in
-      let b = and_group (class_as (part o)).lost (class_as (any_of (map part os))).lost (class_as (part n)).lost in
+      let a = or_assoc (class_as (part o)).sure (class_as (any_of (map part os))).sure (class_as (part n)).sure in
+      let b = and_assoc (class_as (part o)).lost (class_as (any_of (map part os))).lost (class_as (part n)).lost in
       whole ∙ ap (join (class_as (part o))) rest ∙ (cc) ∙ ap (λ (k : Class). join k (class_as (part n))) (sym front)
 
   -- the parts for the objects that pass a test
@@ -141,7 +126,7 @@ module _ (part : ℕ → Formula) where
       let l = (every_class n test).lost in
       ap (λ (os : List ℕ). class_as (all_of (map part os))) (chosen_left n test e)
       ∙ below
-      ∙ same_class s l _ _ (sym (ap (λ (z : Bool). s && z) a ∙ and_end s)) (sym (ap (λ (z : Bool). l || z) b ∙ or_end l)))
+      ∙ same_class s l _ _ (sym (ap (λ (z : Bool). s && z) a ∙ and-true s)) (sym (ap (λ (z : Bool). l || z) b ∙ or-false l)))
       (cases_Bool (test n))
 
   pub class_any : (n : ℕ) (test : ℕ → Bool) → class_as (any_of (map part (chosen n test))) ≡ some_class n test
@@ -161,5 +146,5 @@ module _ (part : ℕ → Formula) where
       let l = (some_class n test).lost in
       ap (λ (os : List ℕ). class_as (any_of (map part os))) (chosen_left n test e)
       ∙ below
-      ∙ same_class s l _ _ (sym (ap (λ (z : Bool). s || z) b ∙ or_end s)) (sym (ap (λ (z : Bool). l && z) a ∙ and_end l)))
+      ∙ same_class s l _ _ (sym (ap (λ (z : Bool). s || z) b ∙ or-false s)) (sym (ap (λ (z : Bool). l && z) a ∙ and-true l)))
       (cases_Bool (test n))

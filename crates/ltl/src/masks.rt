@@ -6,12 +6,12 @@ ghost use Rattle.ltl.specs.Masks.{Masked};
 
 use crate::classes::Classes;
 
-// The bits of the first n positions.
-fn low(n: u8) -> u32
-    requires { n ≤ 26 }
-    ensures { result ≡ 2 ^ n - 1 }
+// Whether a position is in a mask.
+fn has(mask: u32, i: u8) -> bool
+    requires { i < 32 }
+    ensures { result ≡ bit mask i }
 {
-    (1 << n) - 1
+    (mask >> i) & 1 == 1
 }
 
 // Going on from each of n positions: whether one is met whose `hit` bit is set, with the `stay` bits of all before it set;
@@ -22,21 +22,23 @@ fn ahead(n: u8, end: bool, stay: u32, hit: u32) -> u32
 {
     let mut bits = 0;
     let mut on = end;
-    for k in 0..n {
-        let i = n - 1 - k;
-        on = (hit >> i) & 1 == 1 || ((stay >> i) & 1 == 1 && on);
-        bits = bits << 1 | on as u32;
+    for i in (0..n).rev() {
+        on = has(hit, i) || (has(stay, i) && on);
+        // by a shift, since positions come from the last to the first
+        bits = bits << 1 | u32::from(on);
     }
     bits
 }
 
 impl Classes {
     // What is always known.
+    // `value` is the truth value of a constant formula and no flag: it says which of the two masks is full.
     pub(crate) fn constant(n: u8, value: bool) -> Classes
         requires { n ≤ 25 }
         ensures { Masked n (λ i. told value) result }
     {
-        let all = low(n + 1);
+        // one bit for each of n positions, and one for those behind them
+        let all = (2 << n) - 1;
         if value {
             Classes { sure: all, lost: 0 }
         } else {

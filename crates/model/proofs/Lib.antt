@@ -5,7 +5,6 @@ pub mod Counting
 pub mod Drawn
 pub mod Goals
 pub mod Growth
-pub mod Listing
 pub mod Moves
 pub mod Naming
 pub mod Pictures

@@ -1,29 +1,25 @@
 -- Naming facts: the predicate of an atom that fits exists, and its first fact lies behind those of the others.
-use Rattle.std.proofs.Common.{◌≡◌, ℕ, ◌+◌, ◌<◌, ◌≤◌, true, ltb, List, length, get_or, take, Some, None, Option, sym, ap, ◌∙◌, ⊎_elim}
-use Rattle.std.proofs.lemmas.List.{take_more, take-take}
+use Rattle.std.proofs.Common.{◌≡◌, ℕ, ◌+◌, ◌<◌, true, ltb, List, length, get_or, take, Some, None, Option, sym, ap, ◌∙◌, ⊎_elim}
+use Rattle.std.proofs.lemmas.List.{take_more}
 use Rattle.std.proofs.lemmas.Bool.{cases_Bool, cond-false, cond-true, false≢true, lt-ltb, ltb-true}
 use Rattle.model.specs.declared.term.Atom.{Atom}
 use Rattle.model.specs.declared.vocabulary.Arity.{Arity}
 use Rattle.model.specs.declared.vocabulary.Arity.TheVariants.{Zero}
 use Rattle.model.specs.declared.vocabulary.Vocabulary.{Vocabulary}
 use Rattle.model.specs.Facts.{facts, facts_of}
-use Rattle.model.specs.Numbering.{first_fact}
 use Rattle.model.specs.Vocabularies.{arity_at, atom_fits, terms_fit}
 use Rattle.model.proofs.Counting.{facts_push}
 
-pub fits_below : (v : Vocabulary) (vars : ℕ) (a : Atom) → atom_fits v vars a ≡ true → a.predicate < v.predicates
+pub fits_below : (v : Vocabulary) (vars : ℕ) (a : Atom) → atom_fits v vars a ≡ true → a.predicate < length v.arities
 fits_below v vars a e =
-    ⊎_elim (λ h. ltb-true a.predicate v.predicates h)
+    ⊎_elim (λ h. ltb-true a.predicate (length v.arities) h)
     (λ h.
-    let n : arity_at v a.predicate ≡ None = cond-false (ltb a.predicate v.predicates) _ _ h in
+    let n : arity_at v a.predicate ≡ None = cond-false (ltb a.predicate (length v.arities)) _ _ h in
     absurd (false≢true (ap (λ (o : Option Arity). terms_fit v.objects vars o a.first a.second) (sym n) ∙ e)))
-    (cases_Bool (ltb a.predicate v.predicates))
+    (cases_Bool (ltb a.predicate (length v.arities)))
 
-pub arity_there : (v : Vocabulary) (p : ℕ) → p < v.predicates → arity_at v p ≡ Some (get_or v.arities p Zero)
-arity_there v p h = cond-true (ltb p v.predicates) _ _ (lt-ltb p v.predicates h)
-
-pub first_fact_is : (v : Vocabulary) (p : ℕ) → p ≤ v.predicates → first_fact v p ≡ facts v.objects (take p v.arities)
-first_fact_is v p h = ap (facts v.objects) (take-take p v.predicates v.arities h)
+pub arity_there : (v : Vocabulary) (p : ℕ) → p < length v.arities → arity_at v p ≡ Some (get_or v.arities p Zero)
+arity_there v p h = cond-true (ltb p (length v.arities)) _ _ (lt-ltb p (length v.arities) h)
 
 -- one predicate more
 pub facts_more : (n : ℕ) (arities : List Arity) (p : ℕ) → p < length arities

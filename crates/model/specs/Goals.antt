@@ -1,6 +1,6 @@
 -- Goals: which literals one has, and where it holds.
-use Rattle.std.specs.Prelude.{◌≡◌, ◌≤◌, Bool, not, List, length, take, Some, None, Option}
-use Rattle.codec.specs.Codes.{every}
+use Rattle.std.specs.Prelude.{◌≡◌, ◌≤◌, Bool, not, List, length, Some, None, Option}
+use Rattle.std.specs.List.{list_all}
 use Rattle.model.specs.declared.fact.Literal.{Literal}
 use Rattle.model.specs.declared.fact.Sign.{Sign}
 use Rattle.model.specs.declared.fact.Sign.TheVariants.{Negative, Positive}
@@ -20,11 +20,11 @@ literal_holds p l = agrees l.sign (holds p l.fact.number)
 
 -- the literals of a goal, in their order
 abbrev pub goal_list : Goal → List Literal
-goal_list g = take g.count g.literals
+goal_list g = g.literals
 
 -- whether a goal holds in a picture: each of its literals does
 abbrev pub goal_holds : Goal → Picture → Bool
-goal_holds g p = every (literal_holds p) (goal_list g)
+goal_holds g p = list_all (literal_holds p) (goal_list g)
 
 -- what the literals of a goal keep to: at most 64, on facts that ascend
 pub record SoundGoal (literals : List Literal) : Type 0 where

@@ -1,7 +1,6 @@
 -- Pictures: which facts hold in one, and what it is made from.
-use Rattle.std.specs.Prelude.{◌≡◌, ℕ, zero, suc, ◌/◌, ◌%◌, ◌^◌, ◌<◌, ◌≤◌, Bool, true, false, cond, not, ◌&&◌, ◌||◌, List, [], ◌∷◌, ◌++◌, take, Some, None, Option, ◌==◌, slice_index}
+use Rattle.std.specs.Prelude.{◌≡◌, ℕ, zero, suc, ◌/◌, ◌%◌, ◌^◌, ◌<◌, ◌≤◌, Bool, true, false, cond, not, ◌&&◌, ◌||◌, List, [], ◌∷◌, ◌++◌, Some, None, Option, ◌==◌, slice_index}
 use Rattle.model.specs.declared.fact.Fact.{Fact}
-use Rattle.model.specs.declared.picture.FactList.{FactList}
 use Rattle.model.specs.declared.picture.Picture.{Picture}
 use Rattle.model.specs.Ascents.{SoundFacts, fact_numbers}
 
@@ -21,10 +20,6 @@ chosen (suc n) test = chosen n test ++ cond (test n) (n ∷ []) []
 -- the facts that hold in a picture, ascending
 unfoldable pub members : Picture → List ℕ
 members p = chosen 512 (holds p)
-
--- the facts of a list, in their order
-abbrev pub fact_list : FactList → List Fact
-fact_list l = take l.count l.facts
 
 -- what making a picture answers: one with just these facts, or none where they are unsound
 abbrev pub PictureMade : List Fact → Option Picture → Type 0

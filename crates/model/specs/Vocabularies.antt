@@ -1,5 +1,5 @@
 -- Vocabularies: what one is made from, and which atoms it has.
-use Rattle.std.specs.Prelude.{◌≡◌, ℕ, Bool, false, cond, ◌&&◌, List, take, Some, None, Option, ◌==◌, nat_lt, slice_index_or}
+use Rattle.std.specs.Prelude.{◌≡◌, ℕ, Bool, false, cond, ◌&&◌, List, length, Some, None, Option, ◌==◌, nat_lt, slice_index_or}
 use Rattle.model.specs.declared.term.Atom.{Atom}
 use Rattle.model.specs.declared.term.Term.{Term}
 use Rattle.model.specs.declared.term.Term.TheVariants.{Object, Variable}
@@ -10,7 +10,7 @@ use Rattle.model.specs.Facts.{SoundVocabulary, facts}
 
 -- the arities of a vocabulary's predicates, in their order
 abbrev pub arity_list : Vocabulary → List Arity
-arity_list v = take v.predicates v.arities
+arity_list v = v.arities
 
 -- how many facts a vocabulary has
 abbrev pub fact_total : Vocabulary → ℕ
@@ -23,7 +23,7 @@ VocabularyMade n arities None = SoundVocabulary n arities → ⊥
 
 -- the arity of a predicate, if there is such a predicate
 abbrev pub arity_at : Vocabulary → ℕ → Option Arity
-arity_at v p = cond (nat_lt p v.predicates) (Some (slice_index_or v.arities p Zero)) None
+arity_at v p = cond (nat_lt p (length v.arities)) (Some (slice_index_or v.arities p Zero)) None
 
 -- a term in use: one of the n objects or one of the variables at hand
 abbrev pub term_fits : ℕ → ℕ → Term → Bool

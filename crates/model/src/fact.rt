@@ -1,120 +1,118 @@
-ghost use Rattle.std.specs.Prelude.{◌≡◌, true};
-ghost use Rattle.codec.specs.Codes.{FromByte};
+ghost use Rattle.std.specs.Prelude.{◌≡◌, true, [], ◌∷◌};
+ghost use Rattle.model.specs.declared.fact.Sign.TheVariants.{Negative};
+ghost use Rattle.model.specs.Ascents.{blank_fact, blank_literal};
 ghost use Rattle.model.specs.Literals.{fact_bytes, literal_bytes, sign_byte};
 ghost use Rattle.std.proofs.Common.{rules};
 
+use codec::blank::Blank;
 use codec::coded::Coded;
 
 // Whether something is wanted true or false.
-#[derive(Clone, Copy)]
+#[derive(Debug, Clone, Copy, Default, PartialEq, Eq)]
 pub enum Sign {
+    #[default]
     Negative,
     Positive,
 }
 
-impl Sign {
-    // The byte of a sign: 0 for false and 1 for true.
-    pub fn to_byte(self) -> u8
-        ensures { result ≡ sign_byte self }
-    {
-        match self {
-            Sign::Negative => 0,
-            Sign::Positive => 1,
-        }
-    }
-
-    // The sign that a byte stands for, if any.
-    pub fn from_byte(byte: u8) -> Option<Sign>
-        ensures { FromByte sign_byte (λ _. true) byte result }
-    {
-        match byte {
-            0 => Some(Sign::Negative),
-            1 => Some(Sign::Positive),
-            _ => None,
-        }
-    }
-}
-
 // A fact by its number.
-#[derive(Clone, Copy)]
+#[derive(Debug, Clone, Copy, Default, PartialEq, Eq, PartialOrd, Ord)]
 pub struct Fact {
     pub number: u16,
 }
 
 // A literal: a fact with a sign.
-#[derive(Clone, Copy)]
+// A type apart from lifted literals: what each speaks of is named by its field, a fact here, an atom there.
+#[derive(Debug, Clone, Copy, Default, PartialEq, Eq)]
 pub struct Literal {
     pub sign: Sign,
     pub fact: Fact,
 }
 
-impl Coded for Fact {
-    ghost code = { fact_bytes };
+// The byte of a sign is 0 for false and 1 for true.
+impl Coded<1> for Sign {
+    ghost code = { λ s. sign_byte s ∷ [] };
 
     ghost proper = { λ _. true };
 
-    ghost size = { 2 };
+    ghost narrow = { Prim.search rules };
 
     ghost fixed = { Prim.search rules };
 
     ghost one = { Prim.search rules };
 
-    fn width() -> usize {
-        2
-    }
-
-    fn decode(bytes: &[u8]) -> Option<Fact> {
-        if bytes.len() != 2 {
-            return None;
+    fn decode(bytes: &[u8; 1]) -> Option<Sign> {
+        match *bytes {
+            [0] => Some(Sign::Negative),
+            [1] => Some(Sign::Positive),
+            _ => None,
         }
-        Some(Fact {
-            number: bytes[0] as u16 * 256 + bytes[1] as u16,
-        })
     }
 
-    fn byte(&self, k: usize) -> u8 {
-        match k {
-            0 => (self.number / 256) as u8,
-            1 => (self.number % 256) as u8,
-            _ => 0,
+    fn encode(&self) -> [u8; 1] {
+        match *self {
+            Sign::Negative => [0],
+            Sign::Positive => [1],
         }
     }
 }
 
-impl Coded for Literal {
-    ghost code = { literal_bytes };
+impl Blank for Fact {
+    ghost blank = { blank_fact };
+
+    ghost only = { Prim.search rules };
+}
+
+impl Coded<2> for Fact {
+    ghost code = { fact_bytes };
 
     ghost proper = { λ _. true };
 
-    ghost size = { 3 };
+    ghost narrow = { Prim.search rules };
 
     ghost fixed = { Prim.search rules };
 
     ghost one = { Prim.search rules };
 
-    fn width() -> usize {
-        3
-    }
-
-    fn decode(bytes: &[u8]) -> Option<Literal> {
-        if bytes.len() != 3 {
-            return None;
-        }
-        let sign = Sign::from_byte(bytes[0])?;
-        Some(Literal {
-            sign,
-            fact: Fact {
-                number: bytes[1] as u16 * 256 + bytes[2] as u16,
-            },
+    fn decode(bytes: &[u8; 2]) -> Option<Fact> {
+        Some(Fact {
+            number: u16::from_be_bytes(*bytes),
         })
     }
 
-    fn byte(&self, k: usize) -> u8 {
-        match k {
-            0 => self.sign.to_byte(),
-            1 => (self.fact.number / 256) as u8,
-            2 => (self.fact.number % 256) as u8,
-            _ => 0,
-        }
+    fn encode(&self) -> [u8; 2] {
+        self.number.to_be_bytes()
+    }
+}
+
+impl Blank for Literal {
+    ghost blank = { blank_literal };
+
+    ghost only = { Prim.search rules };
+}
+
+impl Coded<3> for Literal {
+    ghost code = { literal_bytes };
+
+    ghost proper = { λ _. true };
+
+    ghost narrow = { Prim.search rules };
+
+    ghost fixed = { Prim.search rules };
+
+    ghost one = { Prim.search rules };
+
+    fn decode(bytes: &[u8; 3]) -> Option<Literal> {
+        let [sign, high, low] = *bytes;
+        Some(Literal {
+            sign: Sign::decode(&[sign])?,
+            fact: Fact::decode(&[high, low])?,
+        })
+    }
+
+    fn encode(&self) -> [u8; 3] {
+        let [sign]: [u8; 1] = self.sign.encode();
+        let [high, low]: [u8; 2] = self.fact.encode();
+        [sign, high, low]
     }
 }

@@ -1,9 +1,10 @@
 ghost use Rattle.std.specs.Prelude.{◌≡◌, ℕ, false, length};
 ghost use Rattle.model.specs.Ascents.{fact_numbers};
-ghost use Rattle.model.specs.Pictures.{Inserted, PictureMade, Removed, fact_list, holds, members};
+ghost use Rattle.model.specs.Pictures.{Inserted, PictureMade, Removed, holds, members};
 
 use crate::fact::Fact;
-use crate::picture::{FactList, Picture};
+use crate::picture::Picture;
+use codec::table::Table;
 
 impl Picture {
     // The picture in which no fact holds.
@@ -42,6 +43,7 @@ impl Picture {
     }
 
     // Adds a fact. It answers whether the fact is below 512; if not, the picture stays as it was.
+    // A truth value and no Option: there is nothing to hand on, and most callers know the fact to be below 512.
     pub fn insert(&mut self, fact: Fact) -> bool
         ensures { Inserted self.old fact.number self.new result }
     {
@@ -53,6 +55,7 @@ impl Picture {
     }
 
     // Takes a fact away. It answers whether the fact is below 512; if not, the picture stays as it was.
+    // A truth value as in `insert`, and a function of its own, as sets of the library have.
     pub fn remove(&mut self, fact: Fact) -> bool
         ensures { Removed self.old fact.number self.new result }
     {
@@ -64,19 +67,18 @@ impl Picture {
     }
 
     // The facts that hold, ascending.
-    pub fn members(&self) -> FactList
-        ensures same { fact_numbers (fact_list result) ≡ members self.now }
-        ensures long { result.count ≡ length (members self.now) }
+    pub fn members(&self) -> Table<Fact, 512>
+        ensures same { fact_numbers result ≡ members self.now }
+        ensures long { length result ≡ length (members self.now) }
     {
-        let mut facts = [Fact { number: 0 }; 512];
-        let mut count: u16 = 0;
+        let mut facts = Table::empty();
         for number in 0..512 {
             let fact = Fact { number };
             if self.holds(fact) {
-                facts[count as usize] = fact;
-                count += 1;
+                // there is a place for every fact
+                let _ = facts.push(fact);
             }
         }
-        FactList { facts, count }
+        facts
     }
 }

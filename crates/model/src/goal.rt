@@ -1,18 +1,14 @@
-ghost use Rattle.std.specs.Prelude.{◌≡◌, ◌≤◌, length, take};
-ghost use Rattle.codec.specs.Codes.{Unused};
-ghost use Rattle.model.specs.Ascents.{Ascending, blank_literal, literal_facts};
+ghost use Rattle.std.specs.Prelude.{◌≤◌, length};
+ghost use Rattle.model.specs.Ascents.{Ascending, literal_facts};
 
 use crate::fact::Literal;
+use codec::table::Table;
 
-// A goal: at most 64 literals on different facts, all of which are wanted.
-// The first `count` places hold them in ascending order of their facts, the other places the negative literal of
-// fact 0, so that equal goals are equal values.
+// A goal: at most 64 literals on different facts, all of which are wanted, in ascending order of their facts.
 #[derive(Clone, Copy)]
 pub struct Goal {
-    pub literals: [Literal; 64],
-    pub count: u8,
-    ghost few: { count ≤ 64 },
-    ghost places: { length literals ≡ 64 },
-    ghost unused: { Unused blank_literal literals count },
-    ghost rises: { Ascending (literal_facts (take count literals)) },
+    pub literals: Table<Literal, 64>,
+    // the table's own limit once more, since contracts see of a table only the list of its values
+    ghost few: { length literals ≤ 64 },
+    ghost rises: { Ascending (literal_facts literals) },
 }

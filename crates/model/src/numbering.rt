@@ -28,11 +28,13 @@ impl Vocabulary {
         if !self.has(0, atom) {
             return None;
         }
+        let arities = self.arities.as_slice();
         let p = atom.predicate as usize;
-        let first = total(self.objects, &self.arities[0..p]);
+        // those before it: `has` says that there is such a predicate
+        let first = total(self.objects, &arities[0..p]);
         let at = place_of(
             self.objects,
-            self.arities[p],
+            arities[p],
             atom.first.object(),
             atom.second.object(),
         );
@@ -44,13 +46,12 @@ impl Vocabulary {
         ensures { AtomFound self.now fact result }
     {
         let mut left = fact.number;
-        for p in 0..self.predicates {
-            let arity = self.arities[p as usize];
+        for (p, arity) in self.arities.as_slice().iter().enumerate() {
             let size = arity.facts(self.objects);
             if left < size {
-                let (first, second) = terms_at(self.objects, arity, left);
+                let (first, second) = terms_at(self.objects, *arity, left);
                 return Some(Atom {
-                    predicate: p,
+                    predicate: p as u8,
                     first,
                     second,
                 });

@@ -4,10 +4,11 @@ ghost use Rattle.model.specs.Vocabularies.{VocabularyMade, arity_at, atom_fits, 
 
 use crate::term::{Atom, Term};
 use crate::vocabulary::{Arity, Vocabulary};
-use codec::table::padded;
+use codec::table::Table;
 
 impl Arity {
     // How many facts a predicate of this arity has over some objects.
+    // Of a number of objects and no vocabulary, since `total` asks it before there is one.
     pub fn facts(self, objects: u8) -> u16
         ensures { result ≡ facts_of objects self }
     {
@@ -48,18 +49,14 @@ impl Vocabulary {
     pub fn new(objects: u8, arities: &[Arity]) -> Option<Vocabulary>
         ensures { VocabularyMade objects arities.now result }
     {
-        let predicates = arities.len();
-        if objects == 0 || objects > 16 || predicates == 0 || predicates > 16 {
+        let table = Table::new(arities)?;
+        // counted from numbers: there is no vocabulary before the sum is known to be small enough
+        if objects == 0 || objects > 16 || arities.is_empty() || total(objects, arities) > 512 {
             return None;
         }
-        if total(objects, arities) > 512 {
-            return None;
-        }
-        let places = padded::<Arity, 16>(Arity::Zero, arities);
         Some(Vocabulary {
             objects,
-            predicates: predicates as u8,
-            arities: places,
+            arities: table,
         })
     }
 
@@ -67,18 +64,14 @@ impl Vocabulary {
     pub fn facts(&self) -> u16
         ensures { result ≡ fact_total self.now }
     {
-        total(self.objects, &self.arities[0..self.predicates as usize])
+        total(self.objects, self.arities.as_slice())
     }
 
     // The arity of a predicate, if there is such a predicate.
     pub fn arity(&self, predicate: u8) -> Option<Arity>
         ensures { result ≡ arity_at self.now predicate }
     {
-        if predicate < self.predicates {
-            Some(self.arities[predicate as usize])
-        } else {
-            None
-        }
+        self.arities.as_slice().get(predicate as usize).copied()
     }
 
     // Whether it has this atom, with some variables at hand.
@@ -96,6 +89,7 @@ impl Vocabulary {
 }
 
 // How many facts predicates of these arities have.
+// Of numbers and no vocabulary, since one is made only where this sum is small enough.
 pub(crate) fn total(objects: u8, arities: &[Arity]) -> u16
     requires { (length arities.now ≤ 16) × (objects ≤ 16) }
     ensures sum { result ≡ facts objects arities.now }

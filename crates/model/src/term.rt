@@ -1,5 +1,5 @@
-ghost use Rattle.std.specs.Prelude.{◌≡◌, true};
-ghost use Rattle.codec.specs.Codes.{FromByte};
+ghost use Rattle.std.specs.Prelude.{◌≡◌, true, [], ◌∷◌};
+ghost use Rattle.model.specs.declared.term.Term.TheVariants.{Object};
 ghost use Rattle.model.specs.Atoms.{atom_bytes, atom_proper, term_byte, term_proper};
 ghost use Rattle.std.proofs.Common.{rules};
 
@@ -7,81 +7,81 @@ use codec::coded::Coded;
 
 // What an atom speaks of: an object by its number, or a variable by its number.
 // A variable stands for an operator's parameter or for what a quantifier binds.
-#[derive(Clone, Copy)]
+#[derive(Debug, Clone, Copy, PartialEq, Eq)]
 pub enum Term {
     Object(u8),
     Variable(u8),
 }
 
-impl Term {
-    // The term that a byte stands for, if any: 0 to 15 are objects, 16 to 19 variables.
-    pub fn from_byte(byte: u8) -> Option<Term>
-        ensures { FromByte term_byte term_proper byte result }
-    {
-        if byte < 16 {
-            return Some(Term::Object(byte));
-        }
-        if byte < 20 {
-            return Some(Term::Variable(byte - 16));
-        }
-        None
+// What stands for a term that is not in use is object 0.
+// By hand, since a variant with a number in it has no derived default.
+impl Default for Term {
+    ghost is_default = { λ t. t ≡ Object 0 };
+
+    fn default() -> Term {
+        Term::Object(0)
     }
 }
 
 // A predicate applied to two terms; a term that the predicate lacks is object 0.
-#[derive(Clone, Copy)]
+#[derive(Debug, Clone, Copy, Default, PartialEq, Eq)]
 pub struct Atom {
     pub predicate: u8,
     pub first: Term,
     pub second: Term,
 }
 
-impl Term {
-    // The byte of a term.
-    pub fn to_byte(self) -> u8
-        ensures { term_proper self ≡ true → result ≡ term_byte self }
-    {
-        match self {
-            Term::Object(o) => o,
-            Term::Variable(v) => v.saturating_add(16),
-        }
-    }
-}
+// The bytes 0 to 15 stand for objects, 16 to 19 for variables.
+impl Coded<1> for Term {
+    ghost code = { λ t. term_byte t ∷ [] };
 
-impl Coded for Atom {
-    ghost code = { atom_bytes };
+    ghost proper = { term_proper };
 
-    ghost proper = { atom_proper };
-
-    ghost size = { 3 };
+    ghost narrow = { Prim.search rules };
 
     ghost fixed = { Prim.search rules };
 
     ghost one = { Prim.search rules };
 
-    fn width() -> usize {
-        3
+    fn decode(bytes: &[u8; 1]) -> Option<Term> {
+        match *bytes {
+            [o @ 0..=15] => Some(Term::Object(o)),
+            [v @ 16..=19] => Some(Term::Variable(v - 16)),
+            _ => None,
+        }
     }
 
-    fn decode(bytes: &[u8]) -> Option<Atom> {
-        if bytes.len() != 3 {
-            return None;
+    fn encode(&self) -> [u8; 1] {
+        match *self {
+            Term::Object(o) => [o],
+            Term::Variable(v) => [v.saturating_add(16)],
         }
-        let first = Term::from_byte(bytes[1])?;
-        let second = Term::from_byte(bytes[2])?;
+    }
+}
+
+impl Coded<3> for Atom {
+    ghost code = { atom_bytes };
+
+    ghost proper = { atom_proper };
+
+    ghost narrow = { Prim.search rules };
+
+    ghost fixed = { Prim.search rules };
+
+    ghost one = { Prim.search rules };
+
+    fn decode(bytes: &[u8; 3]) -> Option<Atom> {
+        let [predicate, first, second] = *bytes;
         Some(Atom {
-            predicate: bytes[0],
-            first,
-            second,
+            predicate,
+            first: Term::decode(&[first])?,
+            second: Term::decode(&[second])?,
         })
     }
 
-    fn byte(&self, k: usize) -> u8 {
-        match k {
-            0 => self.predicate,
-            1 => self.first.to_byte(),
-            2 => self.second.to_byte(),
-            _ => 0,
-        }
+    fn encode(&self) -> [u8; 3] {
+        let [first]: [u8; 1] = self.first.encode();
+        let [second]: [u8; 1] = self.second.encode();
+        [self.predicate, first, second]
     }
 }

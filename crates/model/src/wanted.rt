@@ -2,10 +2,10 @@ ghost use Rattle.std.specs.Prelude.{◌≡◌, Decides};
 ghost use Rattle.model.specs.Ascents.{Ascending, literal_facts};
 ghost use Rattle.model.specs.Goals.{GoalMade, goal_holds, literal_holds};
 
-use crate::fact::{Fact, Literal, Sign};
+use crate::fact::{Literal, Sign};
 use crate::goal::Goal;
 use crate::picture::Picture;
-use codec::table::padded;
+use codec::table::Table;
 
 impl Literal {
     // Whether it holds in a picture.
@@ -25,30 +25,18 @@ impl Goal {
     pub fn new(literals: &[Literal]) -> Option<Goal>
         ensures { GoalMade literals.now result }
     {
-        let count = literals.len();
-        if count > 64 || !ascend(literals) {
+        let table = Table::new(literals)?;
+        if !ascend(literals) {
             return None;
         }
-        let blank = Literal {
-            sign: Sign::Negative,
-            fact: Fact { number: 0 },
-        };
-        Some(Goal {
-            literals: padded::<Literal, 64>(blank, literals),
-            count: count as u8,
-        })
+        Some(Goal { literals: table })
     }
 
     // Whether it holds in a picture: each of its literals does.
     pub fn holds(&self, picture: &Picture) -> bool
         ensures { result ≡ goal_holds self.now picture.now }
     {
-        for literal in &self.literals[0..self.count as usize] {
-            if !literal.holds(picture) {
-                return false;
-            }
-        }
-        true
+        self.literals.as_slice().iter().all(|l| l.holds(picture))
     }
 }
 
@@ -56,10 +44,5 @@ impl Goal {
 fn ascend(literals: &[Literal]) -> bool
     ensures { Decides result (Ascending (literal_facts literals.now)) }
 {
-    for i in 1..literals.len() {
-        if literals[i].fact.number <= literals[i - 1].fact.number {
-            return false;
-        }
-    }
-    true
+    literals.is_sorted_by(|a, b| a.fact.number < b.fact.number)
 }

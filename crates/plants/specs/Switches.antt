@@ -1,5 +1,5 @@
 -- Switches: their bytes in a record, which of them join sections, and the predicates of a network.
-use Rattle.std.specs.Prelude.{◌≡◌, ℕ, Bool, true, false, not, ◌&&◌, List, [], ◌∷◌, ◌==◌, nat_lt}
+use Rattle.std.specs.Prelude.{ℕ, Bool, not, ◌&&◌, List, [], ◌∷◌, ◌==◌, nat_lt}
 use Rattle.model.specs.declared.vocabulary.Arity.{Arity}
 use Rattle.model.specs.declared.vocabulary.Arity.TheVariants.{One}
 use Rattle.plants.specs.declared.network.Switch.{Switch}
@@ -19,8 +19,3 @@ blank_switch = record { from = 0; to = 0 }
 -- the arities of a network's three predicates: each takes one object
 abbrev pub network_arities : List Arity
 network_arities = One ∷ (One ∷ (One ∷ []))
-
--- whether there are three predicates of one object each
-abbrev pub ThreeUnary : List Arity → Bool → Type 0
-ThreeUnary arities true = arities ≡ network_arities
-ThreeUnary arities false = arities ≡ network_arities → ⊥

@@ -1,45 +1,47 @@
-ghost use Rattle.plants.specs.Lifted.{lifted_bytes, lifted_proper};
+ghost use Rattle.plants.specs.Lifted.{blank_lifted, lifted_bytes, lifted_proper};
 ghost use Rattle.std.proofs.Common.{rules};
 
+use codec::blank::Blank;
 use codec::coded::Coded;
 use model::fact::Sign;
 use model::term::Atom;
 
 // A literal whose atom may speak of an operator's parameters.
-#[derive(Clone, Copy)]
+// A type apart from literals on facts: what each speaks of is named by its field, an atom here, a fact there.
+#[derive(Debug, Clone, Copy, Default, PartialEq, Eq)]
 pub struct LiftedLiteral {
     pub sign: Sign,
     pub atom: Atom,
 }
 
-impl Coded for LiftedLiteral {
+impl Blank for LiftedLiteral {
+    ghost blank = { blank_lifted };
+
+    ghost only = { Prim.search rules };
+}
+
+impl Coded<4> for LiftedLiteral {
     ghost code = { lifted_bytes };
 
     ghost proper = { lifted_proper };
 
-    ghost size = { 4 };
+    ghost narrow = { Prim.search rules };
 
     ghost fixed = { Prim.search rules };
 
     ghost one = { Prim.search rules };
 
-    fn width() -> usize {
-        4
+    fn decode(bytes: &[u8; 4]) -> Option<LiftedLiteral> {
+        let [sign, predicate, first, second] = *bytes;
+        Some(LiftedLiteral {
+            sign: Sign::decode(&[sign])?,
+            atom: Atom::decode(&[predicate, first, second])?,
+        })
     }
 
-    fn decode(bytes: &[u8]) -> Option<LiftedLiteral> {
-        if bytes.len() != 4 {
-            return None;
-        }
-        let sign = Sign::from_byte(bytes[0])?;
-        let atom = <Atom as Coded>::decode(&bytes[1..4])?;
-        Some(LiftedLiteral { sign, atom })
-    }
-
-    fn byte(&self, k: usize) -> u8 {
-        match k {
-            0 => self.sign.to_byte(),
-            _ => self.atom.byte(k - 1),
-        }
+    fn encode(&self) -> [u8; 4] {
+        let [sign]: [u8; 1] = self.sign.encode();
+        let [predicate, first, second]: [u8; 3] = self.atom.encode();
+        [sign, predicate, first, second]
     }
 }

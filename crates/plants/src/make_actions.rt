@@ -1,85 +1,79 @@
 ghost use Rattle.std.specs.Prelude.{◌≡◌};
-ghost use Rattle.codec.specs.Codes.{every};
+ghost use Rattle.std.specs.List.{list_all};
 ghost use Rattle.plants.specs.Actions.{ActionsMade};
 ghost use Rattle.plants.specs.Lifted.{lifted_fits};
 ghost use Rattle.plants.specs.Operators.{OperatorMade, blank_operator, operator_fits, operator_head};
+ghost use Rattle.std.proofs.Common.{rules};
 
 use crate::actions::ActionTable;
 use crate::literal::LiftedLiteral;
 use crate::operator::Operator;
-use codec::table::padded;
-use model::fact::Sign;
-use model::term::{Atom, Term};
+use codec::blank::Blank;
+use codec::table::Table;
 use model::vocabulary::Vocabulary;
 
-// What stands in a place for a literal that is not in use.
-const BLANK_LITERAL: LiftedLiteral = LiftedLiteral {
-    sign: Sign::Negative,
-    atom: Atom {
-        predicate: 0,
-        first: Term::Object(0),
-        second: Term::Object(0),
-    },
-};
+// What stands in a place for an operator that is not in use has no parameters and no literals.
+// By hand, since no default is derived for a type with an invariant.
+impl Default for Operator {
+    ghost is_default = { λ op. op ≡ blank_operator };
 
-impl Operator {
-    // An operator with these literals: first its preconditions, and the effects behind them.
-    // None where there are more than 2 parameters, 8 preconditions or 8 effects, or fewer literals than preconditions.
-    pub fn new(parameters: u8, preconditions: u8, literals: &[LiftedLiteral]) -> Option<Operator>
-        ensures { OperatorMade parameters preconditions literals.now result }
-    {
-        let before = preconditions as usize;
-        let all = literals.len();
-        if parameters > 2 || preconditions > 8 || all < before || all > before + 8 {
-            return None;
-        }
-        let places = padded::<LiftedLiteral, 16>(BLANK_LITERAL, literals);
-        Some(Operator {
-            parameters,
-            preconditions,
-            effects: (all - before) as u8,
-            literals: places,
-        })
-    }
-
-    // What stands in a place for an operator that is not in use.
-    pub fn blank() -> Operator
-        ensures { result ≡ blank_operator }
-    {
+    fn default() -> Operator {
         Operator {
             parameters: 0,
-            preconditions: 0,
-            effects: 0,
-            literals: [BLANK_LITERAL; 16],
+            needs: Table::empty(),
+            effects: Table::empty(),
         }
+    }
+}
+
+impl Blank for Operator {
+    ghost blank = { blank_operator };
+
+    ghost only = { Prim.search rules };
+}
+
+impl Operator {
+    // An operator with these preconditions and effects.
+    // None where there are more than 2 parameters, 8 preconditions or 8 effects.
+    pub fn new(
+        parameters: u8,
+        needs: &[LiftedLiteral],
+        effects: &[LiftedLiteral],
+    ) -> Option<Operator>
+        ensures { OperatorMade parameters needs.now effects.now result }
+    {
+        if parameters > 2 {
+            return None;
+        }
+        Some(Operator {
+            parameters,
+            needs: Table::new(needs)?,
+            effects: Table::new(effects)?,
+        })
     }
 
     // Its first bytes in a record: how many parameters, preconditions and effects it has.
     pub fn head(&self) -> [u8; 3]
         ensures { result ≡ operator_head self.now }
     {
-        [self.parameters, self.preconditions, self.effects]
+        let (needs, effects) = (self.needs.len() as u8, self.effects.len() as u8);
+        [self.parameters, needs, effects]
     }
 
     // Whether a vocabulary has the atoms of all its literals.
     fn fits(&self, vocabulary: &Vocabulary) -> bool
         ensures { result ≡ operator_fits vocabulary.now self.now }
     {
-        let all = (self.preconditions + self.effects) as usize;
-        has_all(vocabulary, self.parameters, &self.literals[0..all])
+        has_all(vocabulary, self.parameters, self.needs.as_slice())
+            && has_all(vocabulary, self.parameters, self.effects.as_slice())
     }
 }
 
 // Whether a vocabulary has the atoms of all these literals, with some parameters at hand.
 fn has_all(vocabulary: &Vocabulary, parameters: u8, literals: &[LiftedLiteral]) -> bool
-    ensures { result ≡ every (lifted_fits vocabulary.now parameters) literals.now }
+    ensures { result ≡ list_all (lifted_fits vocabulary.now parameters) literals.now }
 {
-    for l in literals {
-        if !vocabulary.has(parameters, l.atom) {
-            return false;
-        }
-    }
-    true
+    literals.iter().all(|l| vocabulary.has(parameters, l.atom))
 }
 
 impl ActionTable {
@@ -88,26 +82,20 @@ impl ActionTable {
     pub fn new(vocabulary: Vocabulary, operators: &[Operator]) -> Option<ActionTable>
         ensures { ActionsMade vocabulary operators.now result }
     {
-        if operators.len() > 16 || !all_fit(&vocabulary, operators) {
+        let table = Table::new(operators)?;
+        if !all_fit(&vocabulary, operators) {
             return None;
         }
-        let places = padded::<Operator, 16>(Operator::blank(), operators);
         Some(ActionTable {
             vocabulary,
-            count: operators.len() as u8,
-            operators: places,
+            operators: table,
         })
     }
 }
 
 // Whether a vocabulary has the atoms of all literals of these operators.
 fn all_fit(vocabulary: &Vocabulary, operators: &[Operator]) -> bool
-    ensures { result ≡ every (operator_fits vocabulary.now) operators.now }
+    ensures { result ≡ list_all (operator_fits vocabulary.now) operators.now }
 {
-    for op in operators {
-        if !op.fits(vocabulary) {
-            return false;
-        }
-    }
-    true
+    operators.iter().all(|op| op.fits(vocabulary))
 }

@@ -1,11 +1,10 @@
-ghost use Rattle.std.specs.Prelude.{◌≡◌};
-ghost use Rattle.codec.specs.Codes.{every};
-ghost use Rattle.model.specs.Vocabularies.{arity_list};
+ghost use Rattle.std.specs.Prelude.{◌≡◌, Decides};
+ghost use Rattle.std.specs.List.{list_all};
 ghost use Rattle.plants.specs.Networks.{NetworkMade};
-ghost use Rattle.plants.specs.Switches.{ThreeUnary, switch_fits};
+ghost use Rattle.plants.specs.Switches.{network_arities, switch_fits};
 
 use crate::network::{Network, Switch};
-use codec::table::padded;
+use codec::table::Table;
 use model::vocabulary::{Arity, Vocabulary};
 
 impl Switch {
@@ -28,14 +27,13 @@ impl Network {
         if !has_three_unary(&vocabulary) || switches.len() > sections as usize {
             return None;
         }
+        // fed sections are bits, as a record has them: none may stand behind the last section
         if !all_join(sections, switches) || fed as u32 >= 1 << sections {
             return None;
         }
-        let places = padded::<Switch, 16>(Switch { from: 0, to: 0 }, switches);
         Some(Network {
             vocabulary,
-            count: switches.len() as u8,
-            switches: places,
+            switches: Table::new(switches)?,
             fed,
         })
     }
@@ -43,22 +41,17 @@ impl Network {
 
 // Whether a vocabulary has three predicates of one object each.
 pub fn has_three_unary(vocabulary: &Vocabulary) -> bool
-    ensures { ThreeUnary (arity_list vocabulary.now) result }
+    ensures { Decides result (vocabulary.now.arities ≡ network_arities) }
 {
-    match &vocabulary.arities[0..vocabulary.predicates as usize] {
-        [Arity::One, Arity::One, Arity::One] => true,
-        _ => false,
-    }
+    matches!(
+        vocabulary.arities.as_slice(),
+        [Arity::One, Arity::One, Arity::One]
+    )
 }
 
 // Whether each of these switches joins two different sections.
 fn all_join(sections: u8, switches: &[Switch]) -> bool
-    ensures { result ≡ every (switch_fits sections) switches.now }
+    ensures { result ≡ list_all (switch_fits sections) switches.now }
 {
-    for s in switches {
-        if !s.joins(sections) {
-            return false;
-        }
-    }
-    true
+    switches.iter().all(|s| s.joins(sections))
 }

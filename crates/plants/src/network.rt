@@ -1,51 +1,45 @@
-ghost use Rattle.std.specs.Prelude.{◌≡◌, ◌^◌, ◌<◌, ◌≤◌, true, map, length, take};
-ghost use Rattle.codec.specs.Codes.{Unused, every};
+ghost use Rattle.std.specs.Prelude.{◌≡◌, ◌^◌, ◌<◌, ◌≤◌, true, map, length};
+ghost use Rattle.std.specs.List.{list_all};
 ghost use Rattle.model.specs.Facts.{arity_byte};
-ghost use Rattle.model.specs.Vocabularies.{arity_list};
 ghost use Rattle.plants.specs.Switches.{blank_switch, network_arities, switch_bytes, switch_fits};
 ghost use Rattle.std.proofs.Common.{rules};
 
+use codec::blank::Blank;
 use codec::coded::Coded;
+use codec::table::Table;
 use model::vocabulary::Vocabulary;
 
 // A switch joins two sections, named by their numbers.
-#[derive(Clone, Copy)]
+#[derive(Debug, Clone, Copy, Default, PartialEq, Eq)]
 pub struct Switch {
     pub from: u8,
     pub to: u8,
 }
 
-impl Coded for Switch {
+impl Blank for Switch {
+    ghost blank = { blank_switch };
+
+    ghost only = { Prim.search rules };
+}
+
+impl Coded<2> for Switch {
     ghost code = { switch_bytes };
 
     ghost proper = { λ _. true };
 
-    ghost size = { 2 };
+    ghost narrow = { Prim.search rules };
 
     ghost fixed = { Prim.search rules };
 
     ghost one = { Prim.search rules };
 
-    fn width() -> usize {
-        2
+    fn decode(bytes: &[u8; 2]) -> Option<Switch> {
+        let [from, to] = *bytes;
+        Some(Switch { from, to })
     }
 
-    fn decode(bytes: &[u8]) -> Option<Switch> {
-        if bytes.len() != 2 {
-            return None;
-        }
-        Some(Switch {
-            from: bytes[0],
-            to: bytes[1],
-        })
-    }
-
-    fn byte(&self, k: usize) -> u8 {
-        match k {
-            0 => self.from,
-            1 => self.to,
-            _ => 0,
-        }
+    fn encode(&self) -> [u8; 2] {
+        [self.from, self.to]
     }
 }
 
@@ -54,13 +48,12 @@ impl Coded for Switch {
 #[derive(Clone, Copy)]
 pub struct Network {
     pub vocabulary: Vocabulary,
-    pub count: u8,
-    pub switches: [Switch; 16],
+    pub switches: Table<Switch, 16>,
+    // bits, as a record has them: none may stand behind the last section
     pub fed: u16,
-    ghost unary: { map arity_byte (arity_list vocabulary) ≡ map arity_byte network_arities },
-    ghost few: { count ≤ vocabulary.objects },
-    ghost places: { length switches ≡ 16 },
-    ghost unused: { Unused blank_switch switches count },
-    ghost ends: { every (switch_fits vocabulary.objects) (take count switches) ≡ true },
+    // by bytes: an invariant may have one proof only, which an equation of numbers is known to have
+    ghost unary: { map arity_byte vocabulary.arities ≡ map arity_byte network_arities },
+    ghost few: { length switches ≤ vocabulary.objects },
+    ghost ends: { list_all (switch_fits vocabulary.objects) switches ≡ true },
     ghost feeds: { fed < 2 ^ vocabulary.objects },
 }

@@ -1,19 +1,16 @@
-ghost use Rattle.std.specs.Prelude.{◌≡◌, ◌+◌, ◌≤◌, length};
-ghost use Rattle.codec.specs.Codes.{Unused};
-ghost use Rattle.plants.specs.Lifted.{blank_lifted};
+ghost use Rattle.std.specs.Prelude.{◌≤◌, length};
 
 use crate::literal::LiftedLiteral;
+use codec::table::Table;
 
-// An operator of an action table: how many parameters it has, and its literals, first the preconditions, then the effects.
+// An operator of an action table: how many parameters it has, what must hold before it, and what it makes hold or not.
 #[derive(Clone, Copy)]
 pub struct Operator {
     pub parameters: u8,
-    pub preconditions: u8,
-    pub effects: u8,
-    pub literals: [LiftedLiteral; 16],
+    pub needs: Table<LiftedLiteral, 8>,
+    pub effects: Table<LiftedLiteral, 8>,
     ghost narrow: { parameters ≤ 2 },
-    ghost before: { preconditions ≤ 8 },
-    ghost after: { effects ≤ 8 },
-    ghost places: { length literals ≡ 16 },
-    ghost unused: { Unused blank_lifted literals (preconditions + effects) },
+    // the two tables' own limits once more, since contracts see of a table only the list of its values
+    ghost before: { length needs ≤ 8 },
+    ghost after: { length effects ≤ 8 },
 }

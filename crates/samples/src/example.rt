@@ -1,5 +1,7 @@
 // The example of three sections, as it stands, cut short, and with some of its bytes changed.
+// Answers are the numbers of refusals, as programs print them; 0 is no refusal.
 use crate::sample::check_sample;
+use std::process::Abort;
 use std::test::Fail;
 
 // Its header, the arities, the switches and the fed section, the first facts, the goal, and the formula.
@@ -112,17 +114,17 @@ const CHANGES: [(usize, &[u8], u8); 48] = [
 ];
 
 // A record of the example's length with some bytes put at a place.
-fn with(record: &[u8; 50], at: usize, bytes: &[u8]) -> [u8; 50] {
+fn with(rt: &impl Abort, record: &[u8; 50], at: usize, bytes: &[u8]) -> [u8; 50] {
+    assert!(rt; at <= 50 && bytes.len() <= 50 - at);
     let mut changed = *record;
-    for (place, byte) in changed.iter_mut().skip(at).zip(bytes) {
-        *place = *byte;
-    }
+    changed[at..at + bytes.len()].copy_from_slice(bytes);
     changed
 }
 
 #[test]
 fn whole_and_cut_short(rt: HostRuntime) -> Result<(), Fail> {
     check_sample(&rt, &EXAMPLE, 0)?;
+    // all shorter lengths: numbers, of which there is no list
     for kept in 0..50 {
         let number = if kept < 11 { 1 } else { 4 };
         check_sample(&rt, &EXAMPLE[0..kept], number)?;
@@ -135,9 +137,9 @@ fn first_fault_is_answered(rt: HostRuntime) -> Result<(), Fail> {
     let mut faulty = EXAMPLE;
     for (at, byte, number) in FAULTS {
         // the fault alone
-        check_sample(&rt, &with(&EXAMPLE, at, &[byte]), number)?;
+        check_sample(&rt, &with(&rt, &EXAMPLE, at, &[byte]), number)?;
         // together with those that later checks would find
-        faulty = with(&faulty, at, &[byte]);
+        faulty = with(&rt, &faulty, at, &[byte]);
         check_sample(&rt, &faulty, number)?;
         // behind the first check
         check_sample(&rt, &faulty[0..10], 1)?;
@@ -148,7 +150,7 @@ fn first_fault_is_answered(rt: HostRuntime) -> Result<(), Fail> {
 #[test]
 fn changed(rt: HostRuntime) -> Result<(), Fail> {
     for (at, bytes, number) in CHANGES {
-        check_sample(&rt, &with(&EXAMPLE, at, bytes), number)?;
+        check_sample(&rt, &with(&rt, &EXAMPLE, at, bytes), number)?;
     }
     Ok(())
 }

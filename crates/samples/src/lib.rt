@@ -18,7 +18,7 @@ mod sample;
 mod sizes;
 
 // The number that some bytes are answered with: 0 where they are a feeder's record, else the refusal's.
-// Every string of bytes has one number only.
+// A number, as programs print it: the contract says that each string of bytes has one only.
 pub fn answer(bytes: &[u8]) -> u8
     ensures numbered { Numbered bytes.now result }
     ensures only { (n : ℕ) → Numbered bytes.now n → n ≡ result }

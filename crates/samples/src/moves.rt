@@ -62,6 +62,7 @@ const ACTION_SCENES: [Scene; 6] = [
 
 // Just these facts hold in a picture.
 fn check_facts(rt: &impl Abort, picture: &Picture, facts: &[u16]) {
+    // all facts, and numbers behind the last fact too
     for number in 0..520 {
         assert_eq!(rt;
             picture.holds(Fact { number }),
@@ -73,6 +74,7 @@ fn check_facts(rt: &impl Abort, picture: &Picture, facts: &[u16]) {
 
 // Just these moves are allowed in a state, found in their order.
 fn check_allowed<P: Plant>(rt: &impl Abort, plant: &P, state: &P::State, allowed: &[u16]) {
+    // not over all numbers: each question begins behind the last move
     let mut from = 0;
     for number in allowed {
         assert_eq!(rt; plant.allowed_from(state, from), Some(*number));
@@ -93,6 +95,7 @@ fn check_scene<P: Plant>(rt: &impl Abort, plant: &P, scene: &Scene) {
 
 #[test]
 fn network(rt: HostRuntime) -> Result<(), Fail> {
+    // by let-else: the check makes no proof of `?` with the tables of the feeder taken out behind it
     let Ok(feeder) = read(&EXAMPLE) else {
         return Err(Fail::new("refused"));
     };
@@ -111,6 +114,7 @@ fn network(rt: HostRuntime) -> Result<(), Fail> {
 
 // The plant of a record of an action table.
 fn action_plant(record: &[u8]) -> Result<ActionPlant, Fail> {
+    // by let-else: the check makes no proof of `?` with the tables of the feeder taken out behind it
     let Ok(feeder) = read(record) else {
         return Err(Fail::new("refused"));
     };

@@ -1,8 +1,10 @@
 // Short records, each with one part that is tried in many forms.
 // Where nothing else is said, they have an action table with two objects and three predicates, one of each arity,
 // and so seven facts.
+// Answers are the numbers of refusals, as programs print them; 0 is no refusal.
 use crate::sample::check_sample;
 use std::alloc::{AllocError, Global};
+use std::process::Abort;
 use std::test::Fail;
 
 // A record's front and the rows of its last part, joined.
@@ -232,32 +234,39 @@ fn operators(rt: HostRuntime) -> Result<(), Fail> {
     Ok(())
 }
 
-#[test]
-fn first_facts(rt: HostRuntime) -> Result<(), Fail> {
-    for (facts, number) in FIRST_FACTS {
-        let count = u8::try_from(facts.len())?;
-        let front = [1, 1, 2, 3, 0, 2, 0, 0, 0, 0, count, 0, 1, 2];
-        check_sample(&rt, &joined(rt.alloc(), &front, facts)?, number)?;
+// Records with a front that holds how many rows follow it, and with those rows, each with its answer.
+fn check_rows<const N: usize, F: Fn(u8) -> [u8; 14]>(
+    rt: &impl Abort,
+    heap: Global,
+    cases: &[(&[[u8; N]], u8)],
+    front: F,
+) -> Result<(), Fail>
+    requires { F.IsAlwaysCallable front }
+{
+    for (rows, number) in cases {
+        let count = u8::try_from(rows.len())?;
+        check_sample(rt, &joined(heap, &front(count), rows)?, *number)?;
     }
     Ok(())
+}
+
+#[test]
+fn first_facts(rt: HostRuntime) -> Result<(), Fail> {
+    check_rows(&rt, rt.alloc(), &FIRST_FACTS, |count| {
+        [1, 1, 2, 3, 0, 2, 0, 0, 0, 0, count, 0, 1, 2]
+    })
 }
 
 #[test]
 fn formulas(rt: HostRuntime) -> Result<(), Fail> {
-    for (nodes, number) in FORMULAS {
-        let count = u8::try_from(nodes.len())?;
-        let front = [1, 1, 2, 3, 0, 1, count, 0, 0, 0, 0, 0, 1, 2];
-        check_sample(&rt, &joined(rt.alloc(), &front, nodes)?, number)?;
-    }
-    Ok(())
+    check_rows(&rt, rt.alloc(), &FORMULAS, |count| {
+        [1, 1, 2, 3, 0, 1, count, 0, 0, 0, 0, 0, 1, 2]
+    })
 }
 
 #[test]
 fn charts(rt: HostRuntime) -> Result<(), Fail> {
-    for (lines, number) in CHARTS {
-        let count = u8::try_from(lines.len())?;
-        let front = [1, 1, 2, 3, 0, 2, count, 0, 0, 0, 0, 0, 1, 2];
-        check_sample(&rt, &joined(rt.alloc(), &front, lines)?, number)?;
-    }
-    Ok(())
+    check_rows(&rt, rt.alloc(), &CHARTS, |count| {
+        [1, 1, 2, 3, 0, 2, count, 0, 0, 0, 0, 0, 1, 2]
+    })
 }

@@ -18,10 +18,10 @@ fn check_refused(rt: &impl Abort, feeder: &Feeder, record: &[u8]) -> Result<(), 
     assert!(rt; 0 < record.len() && record.len() <= LONGEST);
     let room = record.len() - 1;
     let short = &mut out[0..room];
-    match write(feeder, short) {
-        Ok(_) => return Err(Fail::new("written into a buffer that is too short")),
-        Err(refusal) => assert_eq!(rt; refusal.number(), 62),
-    }
+    assert_eq!(rt;
+        write(feeder, &mut *short).map_err(|refusal| refusal.number()),
+        Err(62)
+    );
     assert_eq!(rt; &*short, &BLANK[0..room]);
     Ok(())
 }
@@ -30,16 +30,14 @@ fn check_refused(rt: &impl Abort, feeder: &Feeder, record: &[u8]) -> Result<(), 
 fn check_written(rt: &impl Abort, feeder: &Feeder, record: &[u8]) -> Result<(), Fail> {
     let mut out = BLANK;
     assert!(rt; record.len() <= LONGEST);
-    match write(feeder, &mut out) {
-        Ok(size) => assert_eq!(rt; size, record.len()),
-        Err(_) => return Err(Fail::new("not written")),
-    }
+    assert_eq!(rt; write(feeder, &mut out), Ok(record.len()));
     assert_eq!(rt; &out[0..record.len()], record);
     assert_eq!(rt; &out[record.len()..LONGEST], &BLANK[record.len()..LONGEST]);
     Ok(())
 }
 
-// A sample is answered with its number. Where that is 0, it is a record, and is written back to the same bytes.
+// A sample is answered with its number, that of a refusal, as programs print it.
+// Where it is 0, there is no refusal: the sample is a record, and is written back to the same bytes.
 pub(crate) fn check_sample(rt: &impl Abort, bytes: &[u8], number: u8) -> Result<(), Fail> {
     assert_eq!(rt; answer(bytes), number, "of the sample {bytes:?}");
     if let Ok(feeder) = read(bytes) {

@@ -10,6 +10,7 @@ const FRONT: [u8; 27] = *b"\
 
 // Appends copies of some bytes.
 fn append(record: &mut Vec<u8>, bytes: &[u8], copies: u16) -> Result<(), AllocError> {
+    // so many copies, and nothing to go over
     for _ in 0..copies {
         record.extend_from_slice(bytes)?;
     }
@@ -18,6 +19,7 @@ fn append(record: &mut Vec<u8>, bytes: &[u8], copies: u16) -> Result<(), AllocEr
 
 // Appends 16 operators, each with so many preconditions and as many effects.
 fn append_operators(record: &mut Vec<u8>, count: u8) -> Result<(), AllocError> {
+    // so many operators, all alike, and nothing to go over
     for _ in 0..16 {
         record.extend_from_slice(&[2, count, count])?;
         append(record, &[1, 0, 16, 17], 2 * u16::from(count))?;
@@ -26,7 +28,9 @@ fn append_operators(record: &mut Vec<u8>, count: u8) -> Result<(), AllocError> {
 }
 
 // Appends all facts as first facts.
+// A function of its own, since a first fact has two bytes, and a goal literal three.
 fn append_first(record: &mut Vec<u8>) -> Result<(), AllocError> {
+    // facts are numbers, and there is no list of them
     for fact in 0..512u16 {
         record.extend_from_slice(&fact.to_be_bytes())?;
     }
@@ -34,7 +38,9 @@ fn append_first(record: &mut Vec<u8>) -> Result<(), AllocError> {
 }
 
 // Appends a goal on the facts below 64.
+// A function of its own, since a goal literal has three bytes, and a first fact two.
 fn append_goal(record: &mut Vec<u8>) -> Result<(), AllocError> {
+    // facts are numbers, and there is no list of them
     for fact in 0..64 {
         record.extend_from_slice(&[1, 0, fact])?;
     }

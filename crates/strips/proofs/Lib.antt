@@ -1,3 +1,1 @@
-pub mod Cutting
-pub mod Doing
 pub mod Skipping

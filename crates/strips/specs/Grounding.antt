@@ -1,10 +1,9 @@
 -- Grounding: which operator and arguments a move has, and which facts the operator's literals then speak of.
-use Rattle.std.specs.Prelude.{ℕ, ◌/◌, ◌%◌, Bool, cond, List, take, drop, ◌==◌, nat_lt, slice_index_or}
+use Rattle.std.specs.Prelude.{ℕ, ◌/◌, ◌%◌, Bool, cond, ◌==◌, nat_lt, slice_index_or}
 use Rattle.model.specs.declared.fact.Literal.{Literal}
 use Rattle.model.specs.declared.term.Atom.{Atom}
 use Rattle.model.specs.declared.term.Term.{Term}
 use Rattle.model.specs.declared.term.Term.TheVariants.{Object, Variable}
-use Rattle.model.specs.declared.vocabulary.Vocabulary.{Vocabulary}
 use Rattle.model.specs.Numbering.{number_of}
 use Rattle.model.specs.Vocabularies.{atom_fits}
 use Rattle.plants.specs.declared.actions.ActionTable.{ActionTable}
@@ -37,21 +36,13 @@ object_under o r (Variable k) = cond (k == 0) o r
 abbrev pub ground : ℕ → ℕ → Atom → Atom
 ground o r a = record { predicate = a.predicate; first = Object (object_under o r a.first); second = Object (object_under o r a.second) }
 
--- a literal with a fact in place of its atom
-abbrev pub ground_literal : Vocabulary → ℕ → ℕ → LiftedLiteral → Literal
-ground_literal v o r l = record { sign = l.sign; fact = record { number = number_of v (ground o r l.atom) } }
+-- a literal of a move's operator, with a fact in place of its atom
+abbrev pub ground_literal : ActionTable → ℕ → LiftedLiteral → Literal
+ground_literal t m l = record { sign = l.sign; fact = record { number = number_of t.vocabulary (ground (first_argument m) (second_argument m) l.atom) } }
 
--- whether the vocabulary has the ground atom of a literal
-abbrev pub ground_fits : Vocabulary → ℕ → ℕ → LiftedLiteral → Bool
-ground_fits v o r l = atom_fits v 0 (ground o r l.atom)
-
--- the preconditions of an operator, in their order
-abbrev pub preconditions : Operator → List LiftedLiteral
-preconditions op = take op.preconditions op.literals
-
--- its effects: the literals behind the preconditions
-abbrev pub effects : Operator → List LiftedLiteral
-effects op = take op.effects (drop op.preconditions op.literals)
+-- whether the vocabulary has its ground atom
+abbrev pub ground_fits : ActionTable → ℕ → LiftedLiteral → Bool
+ground_fits t m l = atom_fits t.vocabulary 0 (ground (first_argument m) (second_argument m) l.atom)
 
 -- whether an operator with some parameters takes x for parameter i, over n objects: an object if it has this parameter,
 -- and 0 if it lacks it

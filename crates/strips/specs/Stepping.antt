@@ -1,15 +1,15 @@
 -- The state after a move, fact by fact: each effect is on one of the 512 facts, and the picture drawn says what becomes of it.
-use Rattle.std.specs.Prelude.{◌≡◌, ℕ, ◌<◌, ◌≤◌, Bool, true, false, ◌&&◌, Decides, nat_lt, refl}
-use Rattle.std.proofs.Common.{⊎_elim, ◌∙◌}
-use Rattle.std.proofs.Math.Path.{sym, ap}
+use Rattle.std.specs.Prelude.{◌≡◌, ℕ, ◌<◌, Bool, true, false, length, Decides, refl}
+use Rattle.std.proofs.Common.{⊎_elim, ◌∙◌, arith, subst}
+use Rattle.std.proofs.Math.Path.{sym}
 use Rattle.model.specs.declared.fact.Sign.TheVariants.{Negative, Positive}
 use Rattle.model.specs.declared.picture.Picture.{Picture}
-use Rattle.model.specs.Drawn.{picture_of}
 use Rattle.model.specs.Pictures.{holds}
 use Rattle.model.proofs.Drawn.{drawn, holds_picture_of}
 use Rattle.model.proofs.Pictures.{holds_past}
 use Rattle.plants.specs.declared.actions.ActionTable.{ActionTable}
-use Rattle.std.proofs.lemmas.Bool.{and_left, and_parts, cases_Bool, cases_lt, cond-false, cond-true, le-ltb, lt-ltb, ltb-true}
+use Rattle.std.proofs.lemmas.Bool.Decides.{nat_tests}
+use Rattle.std.proofs.lemmas.Bool.{false_from_ne_true, cases_lt}
 use Rattle.std.proofs.lemmas.Bool.Decides.{Decides-at}
 use Rattle.strips.specs.Grounding.{operator_number}
 use Rattle.strips.specs.Laws.{Applicable, Stepped}
@@ -19,45 +19,26 @@ use Rattle.strips.specs.Fitting.{made_below}
 
 -- what is decided and refuted was answered no
 refuted : {P : Type 0} (b : Bool) → Decides b P → (P → ⊥) → b ≡ false
-refuted b d n = ⊎_elim (λ e. absurd (n (d.0 e))) (λ e. e) (cases_Bool b)
+refuted b d n = false_from_ne_true b (λ e. n (d.0 e))
 
 module _ (t : ActionTable) (s : Picture) (m : ℕ) where
   -- the parts of an allowed move
-  pub allowed_parts : action_allowed t s m ≡ true → (operator_number m < t.count) × (takes_both t m ≡ true) × (needs_hold t s m ≡ true)
-  unfolding action_allowed
-  allowed_parts e =
-      let p = and_parts (nat_lt (operator_number m) t.count) (takes_both t m && needs_hold t s m) e in
-      let q = and_parts (takes_both t m) (needs_hold t s m) p.1 in
-      (ltb-true (operator_number m) t.count p.0, q.0, q.1)
-
-  -- a move of an operator that there is not, and of one that there is
-  pub allowed_beyond : t.count ≤ operator_number m → action_allowed t s m ≡ false
-  unfolding action_allowed
-  allowed_beyond h = and_left (nat_lt (operator_number m) t.count) _ (le-ltb (operator_number m) t.count h)
-
-  pub allowed_within : operator_number m < t.count → action_allowed t s m ≡ (takes_both t m && needs_hold t s m)
-  unfolding action_allowed
-  allowed_within h = ap (λ (b : Bool). b && (takes_both t m && needs_hold t s m)) (lt-ltb (operator_number m) t.count h)
+  pub allowed_parts : action_allowed t s m ≡ true → (operator_number m < length t.operators) × (takes_both t m ≡ true) × (needs_hold t s m ≡ true)
+  allowed_parts e = (grind (arith, nat_tests), grind arith, grind arith)
 
   -- an answer that is that test decides what it stands for
   pub answered : (r : Bool) → r ≡ action_allowed t s m → Decides r (Applicable t s m)
   answered r e = Decides-at r (action_allowed t s m) e (decides_allowed t m s)
 
   pub next_idle : action_allowed t s m ≡ false → action_next t s m ≡ s
-  unfolding action_next
-  next_idle e = cond-false (action_allowed t s m) (picture_of (holds_after t s m)) s e
+  next_idle e = rw e
 
   -- a picture in which the facts are as after the move is the next state
   pub next_drawn : action_allowed t s m ≡ true → (r : Picture) → ((f : ℕ) → holds r f ≡ holds_after t s m f) → r ≡ action_next t s m
-  unfolding action_next
-  next_drawn e r h =
-      drawn r (holds_after t s m) (λ f l. h f) ∙ sym (cond-true (action_allowed t s m) (picture_of (holds_after t s m)) s e)
+  next_drawn e r h = rw e (drawn r (holds_after t s m) (λ f l. h f))
 
   holds_next : action_allowed t s m ≡ true → (f : ℕ) → f < 512 → holds (action_next t s m) f ≡ holds_after t s m f
-  unfolding action_next
-  holds_next e f h =
-      ap (λ (p : Picture). holds p f) (cond-true (action_allowed t s m) (picture_of (holds_after t s m)) s e)
-      ∙ holds_picture_of (holds_after t s m) f h
+  holds_next e f h = rw e (holds_picture_of (holds_after t s m) f h)
 
   -- what becomes of a fact, by whether effects make it
   after : (a : Applicable t s m) (f : ℕ) (plus minus : Bool) → makes t m Positive f ≡ plus → makes t m Negative f ≡ minus → f < 512
@@ -66,7 +47,7 @@ module _ (t : ActionTable) (s : Picture) (m : ℕ) where
       let e = holds_next ((decides_allowed t m s).1 a) f h in
       cc
 
-  pub next_law : Stepped t s m (action_next t s m)
+  next_law : Stepped t s m (action_next t s m)
   next_law =
       let yes = λ (a : Applicable t s m). allowed_parts ((decides_allowed t m s).1 a) in
       record {
@@ -87,3 +68,7 @@ module _ (t : ActionTable) (s : Picture) (m : ℕ) where
             (λ h. holds_past (action_next t s m) f h ∙ sym (holds_past s f h))
             (cases_lt f 512);
       }
+
+  -- a state that is the next one keeps to the law
+  pub lawful : (r : Picture) → r ≡ action_next t s m → Stepped t s m r
+  lawful r e = subst (Stepped t s m) (sym e) next_law

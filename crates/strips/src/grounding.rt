@@ -1,13 +1,11 @@
-ghost use Rattle.std.specs.Prelude.{◌≡◌, true};
-ghost use Rattle.strips.specs.Grounding.{argument_fits, first_argument, ground, ground_fits, ground_literal, object_under, second_argument};
+ghost use Rattle.std.specs.Prelude.{◌≡◌};
+ghost use Rattle.strips.specs.Grounding.{argument_fits, first_argument, ground, object_under, second_argument};
 
-use model::fact::Literal;
 use model::term::{Atom, Term};
-use model::vocabulary::Vocabulary;
-use plants::literal::LiftedLiteral;
 
 // The objects that an operator's two parameters stand for; 0 where the operator lacks the parameter.
-#[derive(Clone, Copy)]
+// 0 and no Option, since the number of a move has 0 there, and 0 is what is asked of it.
+#[derive(Debug, Clone, Copy, PartialEq, Eq)]
 pub(crate) struct Arguments {
     pub(crate) first: u8,
     pub(crate) second: u8,
@@ -31,13 +29,14 @@ impl Arguments {
     {
         match term {
             Term::Object(o) => o,
+            // an operator has two parameters at most, so a variable that is not the first is the second
             Term::Variable(0) => self.first,
             Term::Variable(_) => self.second,
         }
     }
 
     // An atom with objects in place of the parameters.
-    fn atom(self, atom: Atom) -> Atom
+    pub(crate) fn atom(self, atom: Atom) -> Atom
         ensures { result ≡ ground self.first self.second atom }
     {
         Atom {
@@ -46,23 +45,10 @@ impl Arguments {
             second: Term::Object(self.object(atom.second)),
         }
     }
-
-    // The fact of a literal's ground atom, with the literal's sign.
-    pub(crate) fn literal(self, vocabulary: &Vocabulary, literal: LiftedLiteral) -> Literal
-        requires { ground_fits vocabulary.now self.first self.second literal ≡ true }
-        ensures { result ≡ ground_literal vocabulary.now self.first self.second literal }
-    {
-        match vocabulary.fact(self.atom(literal.atom)) {
-            Some(fact) => Literal {
-                sign: literal.sign,
-                fact,
-            },
-            None => unreachable(),
-        }
-    }
 }
 
 // Whether an operator with some parameters takes an argument: an object where it has the parameter, else 0.
+// `place` is the parameter's number, as variables have it: 0 or 1.
 pub(crate) fn argument_fits(objects: u8, parameters: u8, place: u8, argument: u8) -> bool
     ensures { result ≡ argument_fits objects parameters place argument }
 {

@@ -4,5 +4,5 @@
 #![tactic(auto)]
 
 mod grounding;
-mod literals;
+mod moves;
 pub mod plant;

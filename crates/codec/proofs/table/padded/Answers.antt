@@ -1,23 +1,19 @@
-use Rattle.std.proofs.Common.{◌+◌, List, ◌++◌, take, set, sym, ap, ◌∙◌, arith}
-use Rattle.std.proofs.lemmas.List.{drop-replicate}
-use Rattle.codec.proofs.Padded.{table_end, table_step}
+use Rattle.std.proofs.Common.{◌≡◌, ℕ, min, List, ◌++◌, length, take, drop, replicate, ap, ap₂, sym, ◌∙◌, ⊎_elim, arith}
+use Rattle.std.proofs.lemmas.List.{drop-replicate, take_all}
+use Rattle.std.proofs.lemmas.Bool.{cases_lt}
+use Rattle.codec.specs.Codes.{table_of}
 use Rattle.codec.proofs.table.padded.Goals as goal
 
-pub loop-i-preserved : goal.loop-i-preserved
-loop-i-preserved g c =
-    let i = c.loop-i.i in
-    let items = c.args.items.now in
-    let b = c.args.blank in
-    let x = c.index-items-i.result in
-    ap (λ (t : List g.row.T.Denot). set t i x) (c.loop-i.invariant ∙ ap (λ (t : List g.row.T.Denot). take i items ++ t) (drop-replicate i g.row.N b))
-    ∙ table_step b g.row.N i items x (omega arith) (omega arith) c.index-items-i.is
-    ∙ ap (λ (t : List g.row.T.Denot). take (i + 1) items ++ t) (sym (drop-replicate (i + 1) g.row.N b))
+-- as many values as there is place for, and the blanks that are left
+cut_down : {A : Type 0} (blank : A) (places n : ℕ) (items : List A) → n ≡ min (length items) places
+    → take n items ++ drop n (replicate places blank) ≡ table_of places blank items
+cut_down blank places n items e =
+    ap₂ (λ (t u : List _). t ++ u)
+    (⊎_elim (λ h. ap (λ m. take m items) (omega arith)) (λ h. take_all n items (omega arith) ∙ sym (take_all places items (omega arith))) (cases_lt places (length items)))
+    (drop-replicate n places blank ∙ ap (λ m. replicate m blank) (omega arith))
 
+-- src/table.rt:100:1
 pub returns : goal.returns
 returns g c =
-    let i = c.loop-i.i in
-    let items = c.args.items.now in
-    let b = c.args.blank in
-    c.loop-i.invariant
-    ∙ ap (λ (t : List g.row.T.Denot). take i items ++ t) (drop-replicate i g.row.N b)
-    ∙ table_end b g.row.N i items (omega arith)
+    ap (λ t. t ++ drop c.min-n.result (replicate g.row.N c.args.blank)) c.copy_from_slice.ensures.after
+    ∙ cut_down c.args.blank g.row.N c.min-n.result c.args.items.now c.min-n.ensures

@@ -1,31 +1,23 @@
-use Rattle.std.proofs.Common.{◌≡◌, ℕ, ◌+◌, ◌-◌, List, length, take, refl, ap, ◌∙◌, arith}
-use native.Mathlib.Nat.{sub-zero}
-use borrow.Rule.Slice.PartMut.{put_mid}
-use Rattle.codec.proofs.Writes.{as_paste, written_more}
-use Rattle.codec.specs.Codes.{written}
-use Rattle.plants.specs.Lifted.{lifted_bytes}
-use Rattle.plants.specs.Operators.{operator_head, operator_literals}
-use Rattle.std.proofs.lemmas.Slice.{put_mid-paste}
-use Rattle.std.specs.List.{flat_map}
+-- The head is written first, then the preconditions, then the effects.
+use Rattle.std.proofs.Common.{◌++◌, sym, ap}
+use Rattle.std.specs.Prelude.{Some}
+use Rattle.std.proofs.lemmas.Grind.{flat_map-append}
+use Rattle.plants.specs.Lifted.{lifted_bytes, lifted_proper}
+use Rattle.plants.specs.Operators.{operator_head}
+use Rattle.feeder.proofs.Shapes.{held_parts}
+use Rattle.feeder.proofs.Writing.{wrote_codes, wrote_same, wrote_then}
 use Rattle.feeder.proofs.put.put_operator.Goals as goal
 
 pub returns : goal.returns
 returns c =
     let op = c.args.op.now in
-    let out = c.args.out.now in
-    let at = c.args.at in
-    let n : ℕ = op.preconditions + op.effects in
-    let literals = flat_map lifted_bytes (operator_literals op) in
-    let same : flat_map lifted_bytes (take (n - 0) op.literals) ≡ literals = ap (λ (k : ℕ). flat_map lifted_bytes (take k op.literals)) (sub-zero n) in
-    let first : put_mid at (at + 3 - at) out c.copy_from_slice.new.self ≡ written out at (operator_head op) =
-    put_mid-paste at _ out c.copy_from_slice.new.self (operator_head op) 3 (c.copy_from_slice.ensures.after ∙ c.head-head.ensures) (omega arith) refl
-    ∙ as_paste out at (operator_head op)
-    in
-    record {
-      next = omega (arith, c.put_list.ensures.next, ap length same);
-      after =
-          c.put_list.ensures.after
-          ∙ ap (λ (o : List ℕ). written o (at + 3) (flat_map lifted_bytes (take (n - 0) op.literals))) first
-          ∙ ap (λ (t : List ℕ). written (written out at (operator_head op)) (at + 3) t) same
-          ∙ written_more out at (operator_head op) literals (omega (arith, c.requires.room));
-    }
+    let before = c.args.writer.now in
+    let front = c.put.new.self in
+    let middle = c.put_all.new.self in
+    let after = c.put_all-2.new.self in
+    let held = held_parts op c.requires in
+    let head = wrote_same before front _ (operator_head op) (Some tt) c.head.ensures c.in_ok-put.ensures in
+    let needs = wrote_codes lifted_bytes lifted_proper 4 _ op.needs front middle (Some tt) c.as_slice.ensures.same held.0 c.in_ok-put_all.ensures in
+    let effects = wrote_codes lifted_bytes lifted_proper 4 _ op.effects middle after c.put_all-2.result c.as_slice-2.ensures.same held.1 c.put_all-2.ensures in
+    wrote_same before after _ _ _ (ap (λ t. operator_head op ++ t) (sym (flat_map-append lifted_bytes op.needs op.effects)))
+    (wrote_then before front after (operator_head op) _ _ head (wrote_then front middle after _ _ _ needs effects))

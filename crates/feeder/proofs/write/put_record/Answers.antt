@@ -1,119 +1,110 @@
-use Rattle.std.proofs.Common.{◌≡◌, ℕ, List, [], ◌++◌, length, ap, ◌∙◌, subst, arith}
-use Rattle.codec.proofs.Writes.{Filled, filled_holds, filled_more, filled_none}
+-- The parts of a record are written one behind the other. Where there is no room for one, there is none for the record.
+use Rattle.std.proofs.Common.{◌≡◌, List, ℕ, ◌++◌, refl, ap, ◌∙◌}
+use Rattle.std.specs.Prelude.{None, Option, Some}
+use Rattle.codec.specs.declared.writer.Writer.{Writer}
+use Rattle.codec.specs.Writing.{Wrote}
 use Rattle.model.specs.declared.vocabulary.Vocabulary.{Vocabulary}
-use Rattle.std.proofs.lemmas.List.{append_assoc}
 use Rattle.feeder.specs.declared.header.Header.{Header}
 use Rattle.feeder.specs.declared.record.Feeder.{Feeder}
 use Rattle.feeder.specs.Headers.{header_bytes, within_limits}
 use Rattle.feeder.specs.Records.{arity_bytes, encode, goal_bytes, header_of, picture_bytes}
 use Rattle.feeder.specs.Tables.{plant_bytes, plant_words, rule_bytes}
-use Rattle.feeder.proofs.Whole.{encode_long, limits}
+use Rattle.feeder.proofs.Whole.{limits}
+use Rattle.feeder.proofs.Writing.{short_before, wrote_same, wrote_then}
 use Rattle.feeder.proofs.write.put_record.Goals as goal
 
--- the arities as the code has them
-words_same : (v w : Vocabulary) → v ≡ w → length (arity_bytes v) ≡ length (arity_bytes w)
-words_same v w e = ap (λ (u : Vocabulary). length (arity_bytes u)) e
+-- a record from one of its parts on
+abbrev from_goal : Feeder → List ℕ
+from_goal f = goal_bytes f.goal ++ rule_bytes f.rules
 
-pub put_header-at-requires : goal.put_header-at-requires
-put_header-at-requires c =
-    let f = c.args.feeder.now in
-    record { held = ap within_limits c.header.ensures ∙ limits f; room = omega (arith, c.requires, encode_long f) }
+abbrev from_first : Feeder → List ℕ
+from_first f = picture_bytes f.first ++ from_goal f
 
-pub put_words-at-requires : goal.put_words-at-requires
-put_words-at-requires c =
-    omega (
-      arith,
-      c.requires,
-      encode_long c.args.feeder.now,
-      words_same _ _ c.vocabulary-vocabulary.ensures,
-      c.put_header-at.ensures.next,
-      c.put_header-at.auto.out,
-    )
+abbrev from_plant : Feeder → List ℕ
+from_plant f = plant_bytes f.plant ++ from_first f
 
-pub put_plant-at-requires : goal.put_plant-at-requires
-put_plant-at-requires c =
-    omega (
-      arith,
-      c.requires,
-      encode_long c.args.feeder.now,
-      words_same _ _ c.vocabulary-vocabulary.ensures,
-      c.put_header-at.ensures.next,
-      c.put_words-at.ensures.next,
-      c.put_header-at.auto.out,
-      c.put_words-at.auto.out,
-    )
+abbrev from_words : Feeder → List ℕ
+from_words f = arity_bytes (plant_words f.plant) ++ from_plant f
 
-pub put_picture-at-requires : goal.put_picture-at-requires
-put_picture-at-requires c =
-    omega (
-      arith,
-      c.requires,
-      encode_long c.args.feeder.now,
-      words_same _ _ c.vocabulary-vocabulary.ensures,
-      c.put_header-at.ensures.next,
-      c.put_words-at.ensures.next,
-      c.put_plant-at.ensures.next,
-      c.put_header-at.auto.out,
-      c.put_words-at.auto.out,
-      c.put_plant-at.auto.out,
-    )
-
-pub put_goal-at-requires : goal.put_goal-at-requires
-put_goal-at-requires c =
-    omega (
-      arith,
-      c.requires,
-      encode_long c.args.feeder.now,
-      words_same _ _ c.vocabulary-vocabulary.ensures,
-      c.put_header-at.ensures.next,
-      c.put_words-at.ensures.next,
-      c.put_plant-at.ensures.next,
-      c.put_picture-at.ensures.next,
-      c.put_header-at.auto.out,
-      c.put_words-at.auto.out,
-      c.put_plant-at.auto.out,
-      c.put_picture-at.auto.out,
-    )
-
-pub put_rules-requires : goal.put_rules-requires
-put_rules-requires c =
-    omega (
-      arith,
-      c.requires,
-      encode_long c.args.feeder.now,
-      words_same _ _ c.vocabulary-vocabulary.ensures,
-      c.put_header-at.ensures.next,
-      c.put_words-at.ensures.next,
-      c.put_plant-at.ensures.next,
-      c.put_picture-at.ensures.next,
-      c.put_goal-at.ensures.next,
-      c.put_header-at.auto.out,
-      c.put_words-at.auto.out,
-      c.put_plant-at.auto.out,
-      c.put_picture-at.auto.out,
-      c.put_goal-at.auto.out,
-    )
-
--- the parts one behind the other are the record
-pieces : (f : Feeder) (h : Header) (v : Vocabulary) → h ≡ header_of f → v ≡ plant_words f.plant
-    → ((((header_bytes h ++ arity_bytes v) ++ plant_bytes f.plant) ++ picture_bytes f.first) ++ goal_bytes f.goal) ++ rule_bytes f.rules ≡ encode f
+whole : (f : Feeder) → header_bytes (header_of f) ++ from_words f ≡ encode f
 unfolding encode
-pieces f h v e u =
-    ap (λ (k : Header). ((((header_bytes k ++ arity_bytes v) ++ plant_bytes f.plant) ++ picture_bytes f.first) ++ goal_bytes f.goal) ++ rule_bytes f.rules) e
-    ∙ ap (λ (w : Vocabulary). ((((header_bytes (header_of f) ++ arity_bytes w) ++ plant_bytes f.plant) ++ picture_bytes f.first) ++ goal_bytes f.goal) ++ rule_bytes f.rules) u
-    ∙ simp append_assoc
+whole f = refl
+
+pub put_header-requires : goal.put_header-requires
+put_header-requires c = ap within_limits c.header.ensures ∙ limits c.args.feeder.now
+
+-- where the header and the arities are written, what follows them makes it the record
+front_then : (f : Feeder) (before head mid after : Writer) (h : Header) (v : Vocabulary) (r : Option (Unit {0})) → h ≡ header_of f → v ≡ plant_words f.plant
+    → Wrote before (header_bytes h) head (Some tt) → Wrote head (arity_bytes v) mid (Some tt) → Wrote mid (from_plant f) after r
+    → Wrote before (encode f) after r
+front_then f before head mid after h v r e d u w x =
+    wrote_same before after _ (encode f) r (ap (λ k. header_bytes k ++ (arity_bytes v ++ from_plant f)) e ∙ ap (λ k. header_bytes (header_of f) ++ (arity_bytes k ++ from_plant f)) d ∙ whole f)
+    (wrote_then before head after (header_bytes h) _ r u (wrote_then head mid after (arity_bytes v) (from_plant f) r w x))
+
+pub returns-in_err-put_header : goal.returns-in_err-put_header
+returns-in_err-put_header c =
+    let f = c.args.feeder.now in
+    let before = c.args.writer.now in
+    let after = c.put_header.new.writer in
+    rw c.from_residual.ensures
+    (wrote_same before after _ (encode f) None (ap (λ h. header_bytes h ++ from_words f) c.header.ensures ∙ whole f)
+    (short_before before after (header_bytes c.header.result) (from_words f) c.in_err-put_header.ensures))
+
+pub returns-in_err-put_words : goal.returns-in_err-put_words
+returns-in_err-put_words c =
+    let f = c.args.feeder.now in
+    let before = c.args.writer.now in
+    let head = c.put_header.new.writer in
+    let after = c.put_words.new.writer in
+    let words = wrote_same head after _ (arity_bytes (plant_words f.plant)) None (ap arity_bytes c.vocabulary.ensures) c.in_err-put_words.ensures in
+    rw c.from_residual-in_err-put_words.ensures
+    (wrote_same before after _ (encode f) None (ap (λ h. header_bytes h ++ from_words f) c.header.ensures ∙ whole f)
+    (wrote_then before head after (header_bytes c.header.result) (from_words f) None c.in_ok-put_header.ensures
+    (short_before head after (arity_bytes (plant_words f.plant)) (from_plant f) words)))
+
+pub returns-in_err-put_plant : goal.returns-in_err-put_plant
+returns-in_err-put_plant c =
+    let f = c.args.feeder.now in
+    let words = c.put_words.new.writer in
+    let after = c.put_plant.new.writer in
+    rw c.from_residual-in_err-put_plant.ensures
+    (front_then f c.args.writer.now c.put_header.new.writer words after _ _ None c.header.ensures c.vocabulary.ensures c.in_ok-put_header.ensures c.in_ok-put_words.ensures
+    (short_before words after (plant_bytes f.plant) (from_first f) c.in_err-put_plant.ensures))
+
+pub returns-in_err-put_picture : goal.returns-in_err-put_picture
+returns-in_err-put_picture c =
+    let f = c.args.feeder.now in
+    let words = c.put_words.new.writer in
+    let plant = c.put_plant.new.writer in
+    let after = c.put_picture.new.writer in
+    rw c.from_residual-in_err-put_picture.ensures
+    (front_then f c.args.writer.now c.put_header.new.writer words after _ _ None c.header.ensures c.vocabulary.ensures c.in_ok-put_header.ensures c.in_ok-put_words.ensures
+    (wrote_then words plant after (plant_bytes f.plant) (from_first f) None c.in_ok-put_plant.ensures
+    (short_before plant after (picture_bytes f.first) (from_goal f) c.in_err-put_picture.ensures)))
+
+pub returns-in_err-put_goal : goal.returns-in_err-put_goal
+returns-in_err-put_goal c =
+    let f = c.args.feeder.now in
+    let words = c.put_words.new.writer in
+    let plant = c.put_plant.new.writer in
+    let first = c.put_picture.new.writer in
+    let after = c.put_goal.new.writer in
+    rw c.from_residual-in_err-put_goal.ensures
+    (front_then f c.args.writer.now c.put_header.new.writer words after _ _ None c.header.ensures c.vocabulary.ensures c.in_ok-put_header.ensures c.in_ok-put_words.ensures
+    (wrote_then words plant after (plant_bytes f.plant) (from_first f) None c.in_ok-put_plant.ensures
+    (wrote_then plant first after (picture_bytes f.first) (from_goal f) None c.in_ok-put_picture.ensures
+    (short_before first after (goal_bytes f.goal) (rule_bytes f.rules) c.in_err-put_goal.ensures))))
 
 pub returns : goal.returns
 returns c =
-    let out = c.args.out.now in
     let f = c.args.feeder.now in
-    let f1 = filled_more out [] (header_bytes c.header.result) 0 _ out _ (filled_none out) c.put_header-at.ensures.next c.put_header-at.ensures.after in
-    let f2 = filled_more out _ (arity_bytes c.vocabulary-vocabulary.result) _ _ _ _ f1 c.put_words-at.ensures.next c.put_words-at.ensures.after in
-    let f3 = filled_more out _ (plant_bytes f.plant) _ _ _ _ f2 c.put_plant-at.ensures.next c.put_plant-at.ensures.after in
-    let f4 = filled_more out _ (picture_bytes f.first) _ _ _ _ f3 c.put_picture-at.ensures.next c.put_picture-at.ensures.after in
-    let f5 = filled_more out _ (goal_bytes f.goal) _ _ _ _ f4 c.put_goal-at.ensures.next c.put_goal-at.ensures.after in
-    let f6 = filled_more out _ (rule_bytes f.rules) _ _ _ _ f5 c.put_rules.ensures.next c.put_rules.ensures.after in
-    let all = subst (λ (t : List ℕ). Filled out t c.put_rules.result c.put_rules.new.out)
-    (pieces f c.header.result c.vocabulary-vocabulary.result c.header.ensures c.vocabulary-vocabulary.ensures) f6
-    in
-    record { next = all.place; after = filled_holds out _ _ _ all }
+    let words = c.put_words.new.writer in
+    let plant = c.put_plant.new.writer in
+    let first = c.put_picture.new.writer in
+    let wanted = c.put_goal.new.writer in
+    let after = c.put_rules.new.writer in
+    let r = c.put_rules.result in
+    front_then f c.args.writer.now c.put_header.new.writer words after _ _ r c.header.ensures c.vocabulary.ensures c.in_ok-put_header.ensures c.in_ok-put_words.ensures
+    (wrote_then words plant after (plant_bytes f.plant) (from_first f) r c.in_ok-put_plant.ensures
+    (wrote_then plant first after (picture_bytes f.first) (from_goal f) r c.in_ok-put_picture.ensures
+    (wrote_then first wanted after (goal_bytes f.goal) (rule_bytes f.rules) r c.in_ok-put_goal.ensures c.put_rules.ensures)))

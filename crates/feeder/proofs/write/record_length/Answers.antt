@@ -1,3 +1,4 @@
+-- The parts' lengths, added up.
 use Rattle.std.proofs.Common.{ap, arith}
 use Rattle.model.proofs.Pictures.{members_few}
 use Rattle.feeder.specs.declared.header.Header.{Header}
@@ -9,7 +10,6 @@ use Rattle.feeder.proofs.write.record_length.Goals as goal
 pub returns : goal.returns
 returns c =
     let f = c.args.feeder.now in
-    let v = plant_words f.plant in
     let e = c.header-header.ensures in
     let predicates = ap (λ (h : Header). h.predicates) e in
     let first = ap (λ (h : Header). h.first) e in
@@ -17,14 +17,14 @@ returns c =
     let rules = ap (λ (h : Header). rules_size h.book h.rules) e in
     let plant = c.plant_length-plant.ensures.size in
     record {
-      size = omega (arith, c.rules_bytes.ensures, encode_long f, words_long v, first_long f.first, goal_long f.goal, rules_long f.rules);
+      size = omega (arith, c.rules_bytes.ensures, encode_long f, words_long (plant_words f.plant), first_long f.first, goal_long f.goal, rules_long f.rules);
       bound = omega (
         arith,
         c.rules_bytes.ensures,
         rules_long f.rules,
         rules_most f.rules,
         members_few f.first,
-        v.few,
+        (plant_words f.plant).few,
         f.goal.few,
         c.plant_length-plant.ensures.bound,
       );

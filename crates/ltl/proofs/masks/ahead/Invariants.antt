@@ -5,8 +5,8 @@ use Rattle.model.specs.Pictures.{bit}
 use Rattle.ltl.specs.Classes.{ahead as going}
 use Rattle.ltl.proofs.masks.ahead.Given as goal
 
-abbrev pub invariant-loop-k : goal.invariant-loop-k
-invariant-loop-k l = record {
-  on : l.on ≡ going l.k l.end (bit l.stay) (bit l.hit) (l.n - l.k);
-  drawn : l.bits ≡ bits_of l.k (λ j. going (l.k - j) l.end (bit l.stay) (bit l.hit) (l.n - l.k + j));
+abbrev pub invariant-loop-i : goal.invariant-loop-i
+invariant-loop-i l = record {
+  on : l.on ≡ going (l.n - l.i) l.end (bit l.stay) (bit l.hit) l.i;
+  drawn : l.bits ≡ bits_of (l.n - l.i) (λ j. going (l.n - l.i - j) l.end (bit l.stay) (bit l.hit) (l.i + j));
 }

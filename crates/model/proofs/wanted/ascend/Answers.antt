@@ -1,56 +1,29 @@
-use Rattle.std.proofs.Common.{◌≡◌, ℕ, ◌+◌, ◌-◌, ◌<◌, List, length, get_or, refl, ap, ⊎_elim, arith}
+use Rattle.std.proofs.Common.{rules, refl, ◌≡◌, ℕ, ◌+◌, ◌<◌, Bool, true, false, ltb, List, length, get_or, sym, arith, Decides}
+use Rattle.std.specs.List.{IsAllAdjacentAnswer}
+use Rattle.std.proofs.lemmas.Fn.{always_returns_same}
 use Rattle.std.proofs.lemmas.List.{get_or-map, length-map}
-use Rattle.std.proofs.lemmas.Bool.{cases_lt, false≢true}
+use Rattle.std.proofs.lemmas.Bool.{ltb-true, ltb-false, false≢true}
 use Rattle.model.specs.declared.fact.Literal.{Literal}
-use Rattle.model.specs.Ascents.{blank_literal, literal_facts}
+use Rattle.model.specs.Ascents.{Ascending, blank_literal, literal_facts}
 use Rattle.model.proofs.wanted.ascend.Goals as goal
 
 -- the fact of a literal of the list
 fact_at : (literals : List Literal) (i : ℕ) → i < length literals → get_or (literal_facts literals) i 0 ≡ (get_or literals i blank_literal).fact.number
 fact_at literals i h = get_or-map (λ (l : Literal). l.fact.number) literals i blank_literal 0 h
 
-pub loop-i-init : goal.loop-i-init
-loop-i-init c = λ k h. absurd (omega arith)
-
-pub returns-then-literals-i : goal.returns-then-literals-i
-returns-then-literals-i c =
-    let literals = c.args.literals.now in
-    let i = c.loop-i.i in
-    let j : i - 1 + 1 ≡ i = omega arith in
-    let long = length-map literals (λ (l : Literal). l.fact.number) in (
-      λ z. absurd (false≢true z),
-      λ a. absurd
-          (omega (
-            arith,
-            a (i - 1) (omega arith),
-            ap (λ (k : ℕ). get_or (literal_facts literals) k 0) j,
-            fact_at literals i (omega arith),
-            fact_at literals (i - 1) (omega arith),
-          )),
+-- whether each literal stands before the next
+answered : (literals : List Literal) (r : Bool) → IsAllAdjacentAnswer (λ x y b. b ≡ ltb x.fact.number y.fact.number) literals r
+    → Decides r (Ascending (literal_facts literals))
+answered literals true a =
+    let n = length-map literals (λ (l : Literal). l.fact.number) in (
+      λ e i h. omega (arith, ltb-true _ _ (sym (a i blank_literal (omega (arith, n)))), fact_at literals i (omega (arith, n)), fact_at literals (i + 1) (omega (arith, n))),
+      λ s. refl,
+    )
+answered literals false a =
+    let n = length-map literals (λ (l : Literal). l.fact.number) in (
+      λ e. absurd (false≢true e),
+      λ s. absurd (omega (arith, s a.0 (omega (arith, n, a.1)), ltb-false _ _ (sym (a.2 blank_literal)), fact_at literals a.0 (omega (arith, a.1)), fact_at literals (a.0 + 1) a.1)),
     )
 
-pub loop-i-preserved : goal.loop-i-preserved
-loop-i-preserved c =
-    let literals = c.args.literals.now in
-    let i = c.loop-i.i in
-    let numbers = literal_facts literals in
-    λ k h.
-    ⊎_elim
-    (λ l. c.loop-i.invariant k l)
-    (λ l.
-    let a : k ≡ i - 1 = omega arith in
-    let b : k + 1 ≡ i = omega arith in
-    omega (
-      arith,
-      ap (λ (m : ℕ). get_or numbers m 0) a,
-      ap (λ (m : ℕ). get_or numbers m 0) b,
-      fact_at literals i (omega arith),
-      fact_at literals (i - 1) (omega arith),
-    ))
-    (cases_lt (k + 1) i)
-
 pub returns : goal.returns
-returns c =
-    let literals = c.args.literals.now in
-    let long = length-map literals (λ (l : Literal). l.fact.number) in
-    (λ z k h. c.loop-i.invariant k (omega arith), λ a. refl)
+returns c = answered c.args.literals.now c.is_sorted_by.result (c.is_sorted_by.ensures.cases (λ x y. ltb x.fact.number y.fact.number) (always_returns_same _ _ _ (λ a r f k. search rules)))

@@ -1,35 +1,26 @@
-use Rattle.std.proofs.Common.{◌≡◌, Bool, false, ◌&&◌, ltb, get_or, set, sym, ap, ◌∙◌, arith, length-set}
-use Rattle.model.specs.Pictures.{holds}
+-- Each call of the closure gives the position of one switch, and leaves the closure as it is.
+use Rattle.std.proofs.Common.{◌≡◌, ℕ, zero, suc, ◌+◌, ◌<◌, ◌≤◌, false, List, get_or, ap, ◌∙◌, subst, ⊎_elim, arith, rules}
+use denote.Param.Members.{Mut, Called}
+use Rattle.std.specs.Array.{IsFromFnResultFrom}
+use Rattle.std.proofs.lemmas.Bool.{cases_eq}
 use Rattle.std.proofs.lemmas.List.FromFn.{fill_by_all}
-use Rattle.std.proofs.lemmas.List.Edits.{fill_by_more}
-use Rattle.grid.specs.declared.state.Position.{Position}
 use Rattle.grid.specs.States.{first_position}
 use Rattle.grid.proofs.plant.NetworkPlant.first_positions.Goals as goal
-use Rattle.grid.proofs.plant.NetworkPlant.first_positions.Goals.{then-holds, else-holds}
 
-abbrev at : Bool → Position
-at b = record { closed = b }
-
-pub loop-a-preserved : goal.loop-a-preserved
-loop-a-preserved c =
-    let w = c.args.self.now.network in
-    let p = c.args.self.now.first in
-    let a = c.loop-a.a in
-    let old = c.loop-a.switches in
-    let e : c.if-holds.closed ≡ (holds p a && ltb a w.count) =
-    elim c.if-holds.branch [
-      | then-holds v ↦ v.closed-is ∙ ap (λ (b : Bool). b && ltb a w.count) (sym (sym c.holds.ensures ∙ v.if-holds.true))
-      | else-holds v ↦ v.closed-is ∙ v.if-holds.false ∙ ap (λ (b : Bool). b && ltb a w.count) (sym (sym c.holds.ensures ∙ v.if-holds.false))
-    ]
-    in
-    let filled = fill_by_more (first_position w p) old a (at false) (omega (arith, c.loop-a.invariant.0)) c.loop-a.invariant.1 in (
-      length-set old a (at c.if-holds.closed) ∙ c.loop-a.invariant.0,
-      λ k h. ap (λ (b : Bool). get_or (set old a (at b)) k (at false)) e ∙ filled k h,
-    )
+module _ {F B : Type 0} (g : Mut F (ℕ × Unit {0}) B) (f : F) (v : ℕ → B)
+    (gives : (i : ℕ) (y : B) (q : F) → Called g f (i, tt) y q → (y ≡ v i) × (q ≡ f)) where
+  filled : (ys : List B) (d : B) (i n k : ℕ) → IsFromFnResultFrom g f ys i n → i ≤ k → k < i + n → get_or ys k d ≡ v k
+  filled ys d i zero k r l h = absurd (omega arith)
+  filled ys d i (suc n) k (q, y, at, call, rest) l h =
+      let e = gives i y q call in
+      ⊎_elim
+      (λ p. ap (λ (j : ℕ). get_or ys j d) p ∙ at.1 d ∙ e.0 ∙ ap v (omega arith))
+      (λ p. filled ys d (i + 1) n k (subst (λ (p : F). IsFromFnResultFrom g p ys (i + 1) n) e.1 rest) (omega arith) (omega arith))
+      (cases_eq k i)
 
 pub returns : goal.returns
 returns c =
     let w = c.args.self.now.network in
     let p = c.args.self.now.first in
-    fill_by_all (first_position w p) c.loop-a.switches 16 (at false) c.loop-a.invariant.0
-    (λ k h. c.loop-a.invariant.1 k (omega arith))
+    fill_by_all (first_position w p) c.from_fn.result 16 (record { closed = false }) c.from_fn.ensures.items.long
+    (λ k h. filled _ _ (first_position w p) (λ i y q k. search rules) c.from_fn.result _ 0 16 k c.from_fn.ensures.items.each (omega arith) (omega arith))

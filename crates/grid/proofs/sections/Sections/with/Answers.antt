@@ -1,20 +1,15 @@
-use Rattle.std.proofs.Common.{◌*◌, ◌%◌, ◌^◌, arith}
-use lib.Bits.{and_le_r, or_add_and}
-use Rattle.std.proofs.lemmas.Nat.{mod_below, or_lt}
-use Rattle.model.proofs.Bits.{bit_joined}
+use Rattle.std.proofs.Common.{Bool, ◌||◌, ap, ◌∙◌}
+use mathlib.Core.Bool.{or_comm}
+use Rattle.std.proofs.lemmas.Nat.{le_or_l}
+use Rattle.model.specs.Pictures.{bit}
+use Rattle.model.proofs.Bits.{bit-bit_or}
 use Rattle.grid.proofs.sections.Sections.with.Goals as goal
 
-pub invariant_of-result : goal.invariant_of-result
-invariant_of-result c =
-    let n = c.args.self.bits in
-    let m = 1 * 2 ^ c.args.section in
-    record { small = or_lt 16 n (m % 2 ^ 16) c.args.self.small (mod_below m (2 ^ 16) (omega arith)) }
+pub returns-clause-bits : goal.returns-clause-bits
+returns-clause-bits c = λ k h.
+    let x = c.args.self.bits in
+    let m = c.bit_of.result in
+    bit-bit_or x m k ∙ or_comm (bit x k) (bit m k) ∙ ap (λ (b : Bool). b || bit x k) (c.bit_of.ensures k h)
 
-pub returns : goal.returns
-returns c =
-    let n = c.args.self.bits in
-    let m = 1 * 2 ^ c.args.section % 2 ^ 16 in
-    record {
-      bits = λ k. bit_joined 16 n c.args.section k c.requires;
-      more = omega (arith, or_add_and n m, and_le_r n m);
-    }
+pub returns-clause-more : goal.returns-clause-more
+returns-clause-more c = le_or_l c.args.self.bits c.bit_of.result

@@ -22,7 +22,7 @@ returns c =
     same_state _ _ refl
     (elim c.if-there.branch [
       | then-there w ↦ same_sections c.if-there.self _
-          (λ k h. ap (λ (s : Sections). bit s.bits k) w.self-is ∙ w.with-self.ensures.bits k ∙ placed (eqb k x) there (bit old k) w.if-there.true)
+          (λ k h. ap (λ (s : Sections). bit s.bits k) w.self-is ∙ w.with-self.ensures.bits k h ∙ placed (eqb k x) there (bit old k) w.if-there.true)
       | else-there w ↦ same_sections c.if-there.self _
           (λ k h. ap (λ (s : Sections). bit s.bits k) w.self-is ∙ w.without-self.ensures k h ∙ lifted (eqb k x) there (bit old k) w.if-there.false)
     ])

@@ -1,5 +1,5 @@
 use Rattle.std.proofs.Common.{◌≡◌, ℕ, ◌/◌, ◌%◌, [], get_or, replicate, refl, ap, ◌∙◌, arith}
-use Rattle.codec.proofs.Padded.{table_unused}
+use Rattle.codec.specs.Padding.{table_unused}
 use Rattle.model.specs.Pictures.{bit, holds}
 use Rattle.model.proofs.Bits.{bit_none}
 use Rattle.model.proofs.picture.Picture.empty.Goals as goal

@@ -1,11 +1,12 @@
-use Rattle.std.proofs.Common.{◌≡◌, ℕ, ◌+◌, true, get_or, take, Some, sym, ap, ◌∙◌, arith}
+use Rattle.std.proofs.Common.{◌≡◌, ℕ, ◌+◌, ◌-◌, true, List, get_or, take, Some, sym, ap, ◌∙◌, arith}
 use native.Mathlib.Nat.{sub-zero}
 use Rattle.std.proofs.lemmas.Bool.{cond-true}
+use Rattle.model.specs.declared.vocabulary.Arity.{Arity}
 use Rattle.model.specs.declared.vocabulary.Arity.TheVariants.{Zero}
 use Rattle.model.specs.Facts.{facts}
 use Rattle.model.specs.Numbering.{number_of, object_of, place}
 use Rattle.model.specs.Vocabularies.{atom_fits}
-use Rattle.model.proofs.Naming.{first_fact_is, fits_below}
+use Rattle.model.proofs.Naming.{fits_below}
 use Rattle.model.proofs.vocabulary.Vocabulary.fact.Goals as goal
 
 pub returns : goal.returns
@@ -15,15 +16,21 @@ returns c =
     let p = a.predicate in
     let fits : atom_fits v 0 a ≡ true = sym c.has.ensures ∙ c.if-not-has.false in
     let below = fits_below v 0 a fits in
-    let first : c.total-first.result ≡ facts v.objects (take p v.arities) =
-    c.total-first.ensures.sum ∙ ap (λ (k : ℕ). facts v.objects (take k v.arities)) (sub-zero p)
-    in
     let objects : place v.objects (get_or v.arities p Zero) c.object.result c.object-2.result
     ≡ place v.objects (get_or v.arities p Zero) (object_of a.first) (object_of a.second) =
     ap (λ (o : ℕ). place v.objects (get_or v.arities p Zero) o c.object-2.result) c.object.ensures
     ∙ ap (λ (r : ℕ). place v.objects (get_or v.arities p Zero) (object_of a.first) r) c.object-2.ensures
     in
+    let all = c.as_slice-arities.ensures.same in
+    let first : c.total-first.result ≡ facts v.objects (take p v.arities) =
+    c.total-first.ensures.sum
+    ∙ ap (λ (xs : List Arity). facts v.objects (take (p - 0) xs)) all
+    ∙ ap (λ (k : ℕ). facts v.objects (take k v.arities)) (sub-zero p)
+    in
+    let at : c.place_of-at.result ≡ place v.objects (get_or v.arities p Zero) c.object.result c.object-2.result =
+    c.place_of-at.ensures.place ∙ ap (λ (xs : List Arity). place v.objects (get_or xs p Zero) c.object.result c.object-2.result) all
+    in
     let number : c.total-first.result + c.place_of-at.result ≡ number_of v a =
-    omega (arith, first_fact_is v p (omega arith), c.place_of-at.ensures.place)
+    omega (arith, first, at ∙ objects)
     in
     ap (λ (n : ℕ). Some (record { number = n })) number ∙ sym (cond-true (atom_fits v 0 a) _ _ fits)

@@ -1,5 +1,0 @@
--- The number falls with each call.
-use Rattle.sheet.proofs.text.+decimal_len.Given as goal
-
-abbrev pub decreases-decimal_len : goal.decreases-decimal_len
-decreases-decimal_len l = l.n
