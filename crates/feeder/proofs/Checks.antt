@@ -1,5 +1,5 @@
 -- The checks run in the order of their numbers: what has passed so far, and one check more.
-use Rattle.std.proofs.Common.{◌≡◌, ℕ, ◌+◌, ◌<◌, cond, eqb, List, sym, refl, ap, ◌∙◌, subst, ⊎_elim, arith}
+use Rattle.std.proofs.Common.{◌≡◌, ℕ, ◌+◌, cond, eqb, List, sym, refl, ap, ◌∙◌, subst, ⊎_elim, arith}
 use Rattle.std.proofs.lemmas.Bool.{cases_lt}
 use Rattle.feeder.specs.declared.refusal.ReadRefusal.{ReadRefusal}
 use Rattle.feeder.specs.declared.refusal.ReadRefusal.TheVariants.{FirstFacts, Goal, Header, Length, Plant, Predicates, Rules, Short, Version}
@@ -31,20 +31,6 @@ numbered_again Rules = refl
 -- a refusal is known by its number
 pub same_refusal : (d e : ReadRefusal) → read_number d ≡ read_number e → d ≡ e
 same_refusal d e q = sym (numbered_again d) ∙ ap numbered q ∙ numbered_again e
-
-number_some : (e : ReadRefusal) → 0 < read_number e
-number_some Short = omega arith
-number_some Version = omega arith
-number_some Header = omega arith
-number_some Length = omega arith
-number_some Predicates = omega arith
-number_some Plant = omega arith
-number_some FirstFacts = omega arith
-number_some Goal = omega arith
-number_some Rules = omega arith
-
-pub passed_none : (bytes : List ℕ) → Passed 1 bytes
-passed_none bytes = λ e h. absurd (omega (arith, number_some e))
 
 pub passed_more : (bytes : List ℕ) (e : ReadRefusal) → Passed (read_number e) bytes → Check e bytes → Passed (read_number e + 1) bytes
 passed_more bytes e p c =

@@ -8,6 +8,8 @@ use Rattle.model.specs.declared.fact.Fact.{Fact}
 use Rattle.model.specs.declared.fact.Literal.{Literal}
 use Rattle.model.specs.declared.vocabulary.Arity.{Arity}
 use Rattle.model.specs.declared.vocabulary.Vocabulary.{Vocabulary}
+use Rattle.model.specs.contracts.fact.LiteralCoded3.TheImpl.Laws as literal
+use Rattle.model.specs.contracts.vocabulary.ArityCoded1.TheImpl.Laws as arity
 use Rattle.model.specs.Facts.{arity_byte}
 use Rattle.model.specs.Literals.{fact_bytes, literal_bytes, word_bytes}
 use Rattle.std.specs.List.{flat_map}
@@ -31,14 +33,12 @@ pub known_plain : {A : Type 0} (code : A → List ℕ) (size : ℕ) → ((x : A)
 known_plain code size fixed z one xs ys e =
     known_list code (λ _. true) size fixed z (λ x y p q c. one x y c) xs ys (all_any xs) (all_any ys) e
 
+-- more than the law says: one that a record cannot hold is known too
 pub header_known : (x y : Header) → header_bytes x ≡ header_bytes y → x ≡ y
 header_known x y e = search rules
 
-pub arity_known : (x y : Arity) → arity_byte x ∷ [] ≡ arity_byte y ∷ [] → x ≡ y
-arity_known x y e = search rules
-
 pub arities_known : (xs ys : List Arity) → flat_map (λ a. arity_byte a ∷ []) xs ≡ flat_map (λ a. arity_byte a ∷ []) ys → xs ≡ ys
-arities_known = known_plain (λ a. arity_byte a ∷ []) 1 (λ a. refl) (omega arith) arity_known
+arities_known = known_plain (λ a. arity_byte a ∷ []) 1 arity.fixed-law (omega arith) (λ x y e. arity.one-law x y refl refl e)
 
 pub words_known : (v w : Vocabulary) → v.objects ≡ w.objects → arity_bytes v ≡ arity_bytes w → v ≡ w
 words_known v w o e =
@@ -50,11 +50,8 @@ header_one bytes h k x y = header_known h k (sym x.same ∙ y.same)
 pub words_one : (bytes : List ℕ) (h : Header) (v w : Vocabulary) → HasWords bytes h v → HasWords bytes h w → v ≡ w
 words_one bytes h v w x y = words_known v w (x.suits.objects ∙ sym y.suits.objects) (sym x.same ∙ y.same)
 
-pub literal_known : (x y : Literal) → literal_bytes x ≡ literal_bytes y → x ≡ y
-literal_known x y e = search rules
-
 pub literals_known : (xs ys : List Literal) → flat_map literal_bytes xs ≡ flat_map literal_bytes ys → xs ≡ ys
-literals_known = known_plain literal_bytes 3 (λ l. refl) (omega arith) literal_known
+literals_known = known_plain literal_bytes 3 literal.fixed-law (omega arith) (λ x y e. literal.one-law x y refl refl e)
 
 pub word_known : (x y : ℕ) → word_bytes x ≡ word_bytes y → x ≡ y
 word_known x y e =

@@ -1,5 +1,5 @@
 -- Plants are known by their bytes: which table of the header's kind can have them.
-use Rattle.std.proofs.Common.{◌≡◌, ℕ, ◌*◌, true, List, length, take, drop, refl, ap, ◌∙◌, arith, rules}
+use Rattle.std.proofs.Common.{◌≡◌, ℕ, ◌*◌, true, List, length, take, drop, refl, ap, ◌∙◌, arith}
 use Rattle.codec.proofs.Coding.{length_joined}
 use Rattle.std.specs.List.{list_all}
 use Rattle.model.specs.declared.vocabulary.Vocabulary.{Vocabulary}
@@ -8,6 +8,7 @@ use Rattle.plants.proofs.Proper.{all_weaker, operator_proper}
 use Rattle.plants.specs.declared.actions.ActionTable.{ActionTable}
 use Rattle.plants.specs.declared.network.Network.{Network}
 use Rattle.plants.specs.declared.network.Switch.{Switch}
+use Rattle.plants.specs.contracts.network.SwitchCoded2.TheImpl.Laws as switch
 use Rattle.plants.specs.Networks.{network_bytes}
 use Rattle.plants.specs.Operators.{operator_bytes, operator_fits}
 use Rattle.plants.specs.Switches.{switch_bytes}
@@ -25,14 +26,11 @@ use Rattle.feeder.proofs.Known.{known_plain}
 pub operators_hold : (t : ActionTable) → list_all operator_holds t.operators ≡ true
 operators_hold t = all_weaker (operator_fits t.vocabulary) operator_holds (operator_proper t.vocabulary) t.operators t.fits
 
-switch_known : (x y : Switch) → switch_bytes x ≡ switch_bytes y → x ≡ y
-switch_known x y e = search rules
-
 pub switches_known : (xs ys : List Switch) → flat_map switch_bytes xs ≡ flat_map switch_bytes ys → xs ≡ ys
-switches_known = known_plain switch_bytes 2 (λ s. refl) (omega arith) switch_known
+switches_known = known_plain switch_bytes 2 switch.fixed-law (omega arith) (λ x y e. switch.one-law x y refl refl e)
 
 pub length_switch_bytes : (xs : List Switch) → length (flat_map switch_bytes xs) ≡ 2 * length xs
-length_switch_bytes = length_joined switch_bytes (λ _. true) 2 (λ s. refl)
+length_switch_bytes = length_joined switch_bytes (λ _. true) 2 switch.fixed-law
 
 -- the two parts of a network's bytes
 pub switches_front : (w : Network) (bytes : List ℕ) (at : ℕ) → bytes ≡ network_bytes w → at ≡ 2 * length w.switches → take at bytes ≡ flat_map switch_bytes w.switches

@@ -3,6 +3,8 @@
 use Rattle.std.proofs.Common.{◌≡◌, ℕ, ◌+◌, ◌*◌, ◌≤◌, true, eqb, leb, List, [], ◌∷◌, ◌++◌, map, length, get_or, take, drop, Ok, Err, Result, sym, refl, ap, ◌∙◌, subst, ⊎_elim, arith, length-append, take-append-drop}
 use denote.Struct.Record.{values_one}
 use Rattle.books.proofs.Sound.{same_chart, same_formula_table}
+use Rattle.books.specs.contracts.line.LineCoded5.TheImpl.Laws as line
+use Rattle.books.specs.contracts.node.NodeCoded4.TheImpl.Laws as node
 use Rattle.books.specs.Lines.{line_bytes}
 use Rattle.books.specs.Nodes.{node_bytes, node_proper}
 use Rattle.codec.proofs.Coding.{length_joined}
@@ -13,6 +15,8 @@ use Rattle.model.specs.declared.goal.Goal.{Goal}
 use Rattle.model.specs.declared.picture.Picture.{Picture}
 use Rattle.model.specs.declared.vocabulary.Arity.{Arity}
 use Rattle.model.specs.declared.vocabulary.Vocabulary.{Vocabulary}
+use Rattle.model.specs.contracts.fact.LiteralCoded3.TheImpl.Laws as literal
+use Rattle.model.specs.contracts.vocabulary.ArityCoded1.TheImpl.Laws as arity
 use Rattle.model.specs.Facts.{arity_byte}
 use Rattle.model.specs.Literals.{literal_bytes, word_bytes}
 use Rattle.model.specs.Pictures.{members}
@@ -42,26 +46,26 @@ use Rattle.feeder.specs.Records.{arity_bytes, encode, goal_bytes, header_of, pic
 use Rattle.feeder.specs.Refusals.{read_number}
 use Rattle.feeder.specs.Tables.{plant_bytes, plant_kind, plant_rows, plant_words, rule_bytes, rule_kind, rule_rows, rule_words, word_code}
 use Rattle.feeder.specs.Verdicts.{Check, HasFirst, HasGoal, HasHeader, HasPlant, HasRules, HasWords, KindWords, Verdict}
-use Rattle.feeder.proofs.Books.{lines_known, node_size, nodes_known, nodes_proper}
+use Rattle.feeder.proofs.Books.{lines_known, nodes_known, nodes_proper}
 use Rattle.feeder.proofs.Checks.{same_refusal}
 use Rattle.feeder.proofs.Cuts.{cut, cut_last, length_part}
-use Rattle.feeder.proofs.Known.{arity_known, header_one, literals_known, word_known, words_list_known, words_one}
+use Rattle.feeder.proofs.Known.{header_one, literals_known, word_known, words_list_known, words_one}
 use Rattle.feeder.proofs.Plants.{feeds_back, length_switch_bytes, operators_hold, switches_front, switches_known}
 use Rattle.feeder.proofs.Shapes.{begins, operators_known}
 
 -- how long the parts of a feeder's record are
 pub words_long : (v : Vocabulary) → length (arity_bytes v) ≡ length v.arities
-words_long v = length_joined (λ a. arity_byte a ∷ []) (λ _. true) 1 (λ a. refl) v.arities ∙ omega arith
+words_long v = length_joined (λ a. arity_byte a ∷ []) (λ _. true) 1 arity.fixed-law v.arities ∙ omega arith
 
 pub first_long : (p : Picture) → length (picture_bytes p) ≡ 2 * length (members p)
 first_long p = length_joined word_bytes (λ _. true) 2 (λ n. refl) (members p)
 
 pub goal_long : (g : Goal) → length (goal_bytes g) ≡ 3 * length g.literals
-goal_long g = length_joined literal_bytes (λ _. true) 3 (λ l. refl) g.literals
+goal_long g = length_joined literal_bytes (λ _. true) 3 literal.fixed-law g.literals
 
 pub rules_long : (r : RuleTable) → length (rule_bytes r) ≡ rules_size (rule_kind r) (rule_rows r)
-rules_long (Formula t) = length_joined node_bytes node_proper 4 node_size t.nodes
-rules_long (Drawn t) = length_joined line_bytes (λ _. true) 5 (λ l. refl) t.lines
+rules_long (Formula t) = length_joined node_bytes node_proper 4 node.fixed-law t.nodes
+rules_long (Drawn t) = length_joined line_bytes (λ _. true) 5 line.fixed-law t.lines
 
 operators_long : (ops : List Operator) (rest : List ℕ) → operators_size (length ops) (flat_map operator_bytes ops ++ rest) ≡ length (flat_map operator_bytes ops)
 unfolding operators_size
@@ -99,7 +103,7 @@ arity_codes [] (y ∷ ys) e = absurd (omega (arith, ap length e))
 arity_codes (x ∷ xs) [] e = absurd (omega (arith, ap length e))
 arity_codes (x ∷ xs) (y ∷ ys) e =
     let h : arity_byte x ∷ [] ≡ arity_byte y ∷ [] = ap (λ (t : List ℕ). take 1 t) e in
-    let a = arity_known x y h in
+    let a = arity.one-law x y refl refl h in
     let b = arity_codes xs ys (ap (λ (t : List ℕ). drop 1 t) e) in
     cc
 

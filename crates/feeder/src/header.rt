@@ -4,6 +4,12 @@ ghost use Rattle.std.proofs.Common.{rules};
 
 use codec::coded::Coded;
 
+// The version of the record format, which is the first byte of a record.
+pub(crate) const VERSION: u8 = 1;
+
+// How many bytes the header has.
+pub(crate) const HEADER: usize = 11;
+
 // What kind of plant a record describes.
 // A type apart from the kinds of rule books, so that no book can stand for a plant.
 #[derive(Debug, Clone, Copy, PartialEq, Eq)]
@@ -131,7 +137,7 @@ impl Header {
     }
 }
 
-impl Coded<11> for Header {
+impl Coded<HEADER> for Header {
     ghost code = { header_bytes };
 
     ghost proper = { within_limits };
@@ -142,7 +148,7 @@ impl Coded<11> for Header {
 
     ghost one = { Prim.search rules };
 
-    fn decode(bytes: &[u8; 11]) -> Option<Header> {
+    fn decode(bytes: &[u8; HEADER]) -> Option<Header> {
         let [
             version,
             plant,
@@ -156,7 +162,7 @@ impl Coded<11> for Header {
             high,
             low,
         ] = *bytes;
-        if version != 1 {
+        if version != VERSION {
             return None;
         }
         let header = Header {
@@ -173,12 +179,12 @@ impl Coded<11> for Header {
         header.is_within_limits().then_some(header)
     }
 
-    fn encode(&self) -> [u8; 11] {
+    fn encode(&self) -> [u8; HEADER] {
         let [plant]: [u8; 1] = self.plant.encode();
         let [book]: [u8; 1] = self.book.encode();
         let [high, low] = self.first.to_be_bytes();
         [
-            1,
+            VERSION,
             plant,
             self.objects,
             self.predicates,

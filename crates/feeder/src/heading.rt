@@ -1,7 +1,7 @@
 ghost use Rattle.feeder.specs.Layouts.{LaidOut};
 ghost use Rattle.feeder.specs.Verdicts.{HasHeader, Passed, Step};
 
-use crate::header::Header;
+use crate::header::{HEADER, Header, VERSION};
 use crate::layout::Layout;
 use crate::refusal::ReadRefusal;
 use codec::coded::Coded;
@@ -10,8 +10,8 @@ use codec::coded::Coded;
 pub(crate) fn read_header(bytes: &[u8]) -> Result<Header, ReadRefusal>
     ensures { Step bytes.now (HasHeader bytes.now) 4 result }
 {
-    let front = bytes.first_chunk::<11>().ok_or(ReadRefusal::Short)?;
-    if front[0] != 1 {
+    let front = bytes.first_chunk::<HEADER>().ok_or(ReadRefusal::Short)?;
+    if front[0] != VERSION {
         return Err(ReadRefusal::Version);
     }
     Header::decode(front).ok_or(ReadRefusal::Header)

@@ -1,9 +1,33 @@
-ghost use Rattle.std.specs.Prelude.{◌≡◌};
+ghost use Rattle.std.specs.Prelude.{◌≡◌, ◌+◌, ◌*◌, ◌≤◌};
 ghost use Rattle.feeder.specs.Layouts.{LayoutMade, OperatorSized, Sized, operators_size, plant_size, rules_size};
 
-use crate::header::{BookKind, Header, PlantKind};
+use crate::header::{BookKind, HEADER, Header, PlantKind};
 
-// Where the parts of a record begin. The arities begin at byte 11, and the rules end the record.
+// How many bytes the counts in front of an operator take.
+pub(crate) const HEAD: usize = 3;
+
+// How many bytes a literal of an operator takes.
+pub(crate) const LIFTED: usize = 4;
+
+// How many bytes a switch of a network takes.
+pub(crate) const SWITCH: usize = 2;
+
+// How many bytes the fed sections of a network take.
+pub(crate) const FED: usize = 2;
+
+// How many bytes a first fact takes.
+pub(crate) const FACT: usize = 2;
+
+// How many bytes a goal literal takes.
+pub(crate) const LITERAL: usize = 3;
+
+// How many bytes a node of a formula takes.
+const NODE: usize = 4;
+
+// How many bytes a line of a chart takes.
+const LINE: usize = 5;
+
+// Where the parts of a record begin. The arities begin behind the header, and the rules end the record.
 #[derive(Debug, Clone, Copy, PartialEq, Eq)]
 pub struct Layout {
     pub plant: usize,
@@ -12,12 +36,20 @@ pub struct Layout {
     pub rules: usize,
 }
 
+// How many bytes an operator of so many literals takes.
+pub(crate) fn operator_size(literals: usize) -> usize
+    requires { literals ≤ 510 }
+    ensures { result ≡ HEAD + LIFTED * literals }
+{
+    HEAD + LIFTED * literals
+}
+
 // How many bytes the operator takes that some bytes begin with; none where there are too few to tell.
 pub(crate) fn operator_bytes(bytes: &[u8]) -> Option<usize>
     ensures { OperatorSized bytes.now result }
 {
-    let [_, needs, effects] = *bytes.first_chunk::<3>()?;
-    Some(3 + 4 * (needs as usize + effects as usize))
+    let [_, needs, effects] = *bytes.first_chunk::<HEAD>()?;
+    Some(operator_size(needs as usize + effects as usize))
 }
 
 // How many bytes the operators take that some bytes begin with, if there are so many.
@@ -45,7 +77,7 @@ fn plant_bytes(kind: PlantKind, rows: u8, bytes: &[u8]) -> Option<usize>
     match kind {
         PlantKind::Actions => operators_bytes(bytes, rows),
         PlantKind::Network => {
-            let size = 2 * rows as usize + 2;
+            let size = SWITCH * rows as usize + FED;
             (size <= bytes.len()).then_some(size)
         }
     }
@@ -57,8 +89,8 @@ pub(crate) fn rules_bytes(kind: BookKind, rules: u8) -> usize
     ensures { result ≡ rules_size kind rules }
 {
     match kind {
-        BookKind::Formula => 4 * rules as usize,
-        BookKind::Chart => 5 * rules as usize,
+        BookKind::Formula => NODE * rules as usize,
+        BookKind::Chart => LINE * rules as usize,
     }
 }
 
@@ -67,12 +99,12 @@ impl Layout {
     pub fn new(header: &Header, bytes: &[u8]) -> Option<Layout>
         ensures { LayoutMade header.now bytes.now result }
     {
-        let plant = 11 + header.predicates as usize;
+        let plant = HEADER + header.predicates as usize;
         let (_, rest) = bytes.split_at_checked(plant)?;
         let facts = plant + plant_bytes(header.plant, header.rows, rest)?;
         let left = bytes.len() - facts;
-        let goal = 2 * header.first as usize;
-        let rules = goal + 3 * header.goal as usize;
+        let goal = FACT * header.first as usize;
+        let rules = goal + LITERAL * header.goal as usize;
         let end = rules + rules_bytes(header.book, header.rules);
         if left != end {
             return None;

@@ -2,7 +2,7 @@ ghost use Rattle.codec.specs.Codes.{Decoded};
 ghost use Rattle.plants.specs.Operators.{operator_bytes};
 ghost use Rattle.feeder.specs.Operators.{OperatorsRead, operator_holds};
 
-use crate::layout::operator_bytes;
+use crate::layout::{HEAD, LIFTED, operator_bytes};
 use codec::list::decode_list;
 use codec::table::Table;
 use plants::literal::LiftedLiteral;
@@ -12,10 +12,10 @@ use plants::operator::Operator;
 fn operator_of(bytes: &[u8]) -> Option<Operator>
     ensures { Decoded operator_bytes operator_holds bytes.now result }
 {
-    let (head, literals) = bytes.split_first_chunk::<3>()?;
+    let (head, literals) = bytes.split_first_chunk::<HEAD>()?;
     let [parameters, before, after] = *head;
-    let (front, back) = literals.split_at_checked(4 * before as usize)?;
-    if back.len() != 4 * after as usize {
+    let (front, back) = literals.split_at_checked(LIFTED * before as usize)?;
+    if back.len() != LIFTED * after as usize {
         return None;
     }
     let needs: Table<LiftedLiteral, 8> = decode_list(front)?;

@@ -4,6 +4,7 @@ ghost use Rattle.feeder.specs.Tables.{plant_bytes};
 ghost use Rattle.feeder.specs.Verdicts.{HasPlant, PartRead, Passed, Step, SuitPlant};
 
 use crate::header::PlantKind;
+use crate::layout::{FED, SWITCH};
 use crate::operators::operators_of;
 use crate::reading::Reading;
 use crate::refusal::ReadRefusal;
@@ -28,10 +29,10 @@ impl Reading<'_> {
     // The network whose switches and fed sections are these bytes.
     fn network_of(&self, bytes: &[u8]) -> Option<PlantTable>
         requires kind { self.now.header.plant ≡ kind.Network }
-        requires size { length bytes.now ≡ 2 * self.now.header.rows + 2 }
+        requires size { length bytes.now ≡ SWITCH * self.now.header.rows + FED }
         ensures { PartRead (SuitPlant self.now.header self.now.vocabulary) plant_bytes bytes.now result }
     {
-        let (front, fed) = bytes.split_last_chunk::<2>()?;
+        let (front, fed) = bytes.split_last_chunk::<FED>()?;
         let switches: Table<Switch, 16> = decode_list(front)?;
         let network = Network::new(
             self.vocabulary,
@@ -43,7 +44,7 @@ impl Reading<'_> {
 
     // The plant of the header's kind and size that has these bytes.
     fn plant_of(&self, bytes: &[u8]) -> Option<PlantTable>
-        requires { self.now.header.plant ≡ kind.Network → length bytes.now ≡ 2 * self.now.header.rows + 2 }
+        requires { self.now.header.plant ≡ kind.Network → length bytes.now ≡ SWITCH * self.now.header.rows + FED }
         ensures { PartRead (SuitPlant self.now.header self.now.vocabulary) plant_bytes bytes.now result }
     {
         // the record says which; each arm reads a table of its own

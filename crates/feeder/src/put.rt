@@ -2,51 +2,14 @@ ghost use Rattle.std.specs.Prelude.{◌≡◌, true};
 ghost use Rattle.std.specs.List.{flat_map, list_all};
 ghost use Rattle.codec.specs.Writing.{Wrote};
 ghost use Rattle.plants.specs.Operators.{operator_bytes};
-ghost use Rattle.feeder.specs.Headers.{header_bytes, within_limits};
 ghost use Rattle.feeder.specs.Operators.{operator_holds};
-ghost use Rattle.feeder.specs.Records.{arity_bytes, goal_bytes, picture_bytes};
 ghost use Rattle.feeder.specs.Tables.{plant_bytes, rule_bytes};
 
-use crate::header::Header;
 use crate::tables::{PlantTable, RuleTable};
-use codec::coded::Coded;
 use codec::writer::Writer;
-use model::goal::Goal;
-use model::picture::Picture;
-use model::vocabulary::Vocabulary;
 use plants::operator::Operator;
 
-// The functions here write one part of a record behind what is written. None where there is no room for it.
-// One function for each part, so that each says which bytes of a record it writes.
-
-// Writes a header.
-pub(crate) fn put_header(header: Header, writer: &mut Writer) -> Option<()>
-    requires { within_limits header ≡ true }
-    ensures { Wrote writer.old (header_bytes header) writer.new result }
-{
-    writer.put(&header.encode())
-}
-
-// Writes the arities of a vocabulary.
-pub(crate) fn put_words(vocabulary: &Vocabulary, writer: &mut Writer) -> Option<()>
-    ensures { Wrote writer.old (arity_bytes vocabulary.now) writer.new result }
-{
-    writer.put_all(vocabulary.arities.as_slice())
-}
-
-// Writes the facts of a picture.
-pub(crate) fn put_picture(picture: &Picture, writer: &mut Writer) -> Option<()>
-    ensures { Wrote writer.old (picture_bytes picture.now) writer.new result }
-{
-    writer.put_all(picture.members().as_slice())
-}
-
-// Writes the literals of a goal.
-pub(crate) fn put_goal(goal: &Goal, writer: &mut Writer) -> Option<()>
-    ensures { Wrote writer.old (goal_bytes goal.now) writer.new result }
-{
-    writer.put_all(goal.literals.as_slice())
-}
+// The functions here write a part of a record behind what is written. None where there is no room for it.
 
 // Writes an operator: its counts, then its preconditions, then its effects.
 // It asks for literals that a record can hold, since a variant of an enum keeps no invariant.

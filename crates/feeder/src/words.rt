@@ -2,7 +2,7 @@ ghost use Rattle.std.specs.Prelude.{◌≡◌, ◌+◌, ◌≤◌, Decides, leng
 ghost use Rattle.feeder.specs.Records.{arity_bytes};
 ghost use Rattle.feeder.specs.Verdicts.{HasHeader, HasWords, KindWords, PartRead, Passed, Step, SuitWords};
 
-use crate::header::{Header, PlantKind};
+use crate::header::{HEADER, Header, PlantKind};
 use crate::refusal::ReadRefusal;
 use codec::list::decode_list;
 use codec::table::Table;
@@ -31,10 +31,10 @@ fn words_of(header: &Header, bytes: &[u8]) -> Option<Vocabulary>
 // The objects and predicates: the fifth check.
 pub(crate) fn read_words(bytes: &[u8], header: &Header) -> Result<Vocabulary, ReadRefusal>
     requires head { HasHeader bytes.now header.now }
-    requires room { 11 + header.now.predicates ≤ length bytes.now }
+    requires room { HEADER + header.now.predicates ≤ length bytes.now }
     requires before { Passed 5 bytes.now }
     ensures { Step bytes.now (HasWords bytes.now header.now) 6 result }
 {
     let n = header.predicates as usize;
-    words_of(header, &bytes[11..11 + n]).ok_or(ReadRefusal::Predicates)
+    words_of(header, &bytes[HEADER..HEADER + n]).ok_or(ReadRefusal::Predicates)
 }

@@ -6,15 +6,19 @@ ghost use Rattle.std.specs.List.{flat_map};
 ghost use Rattle.feeder.specs.Records.{encode, header_of};
 ghost use Rattle.feeder.specs.Tables.{plant_bytes, plant_kind, plant_rows, plant_words, rule_kind, rule_rows};
 
-use crate::header::{BookKind, Header, PlantKind};
-use crate::layout::rules_bytes;
-use crate::put::{put_goal, put_header, put_picture, put_plant, put_rules, put_words};
+use crate::header::{BookKind, HEADER, Header, PlantKind};
+use crate::layout::{FACT, FED, LITERAL, SWITCH, operator_size, rules_bytes};
+use crate::put::{put_plant, put_rules};
 use crate::record::Feeder;
 use crate::refusal::WriteRefusal;
 use crate::tables::{PlantTable, RuleTable};
+use codec::coded::Coded;
 use codec::writer::Writer;
 use model::vocabulary::Vocabulary;
 use plants::operator::Operator;
+
+// How many bytes the longest record has.
+pub const LONGEST: usize = 2915;
 
 // A match for each of the two enums: what their variants hold has no type in common.
 impl PlantTable {
@@ -99,7 +103,7 @@ fn operator_length(op: &Operator) -> usize
     ensures size { result ≡ length (operator_bytes op.now) }
     ensures bound { result ≤ 67 }
 {
-    3 + 4 * (op.needs.len() + op.effects.len())
+    operator_size(op.needs.len() + op.effects.len())
 }
 
 // How many bytes a plant's table takes.
@@ -113,39 +117,39 @@ fn plant_length(plant: &PlantTable) -> usize
             let operators = table.operators.as_slice();
             operators.iter().map(operator_length).sum()
         }
-        PlantTable::Network(network) => 2 * network.switches.len() + 2,
+        PlantTable::Network(network) => SWITCH * network.switches.len() + FED,
     }
 }
 
 // How many bytes the record of a feeder has.
 fn record_length(feeder: &Feeder) -> usize
     ensures size { result ≡ length (encode feeder.now) }
-    ensures bound { result ≤ 2915 }
+    ensures bound { result ≤ LONGEST }
 {
     let header = feeder.header();
     let plant = plant_length(&feeder.plant);
-    let facts = 2 * usize::from(header.first) + 3 * usize::from(header.goal);
-    11 + usize::from(header.predicates) + plant + facts + rules_bytes(header.book, header.rules)
+    let facts = FACT * usize::from(header.first) + LITERAL * usize::from(header.goal);
+    HEADER + usize::from(header.predicates) + plant + facts + rules_bytes(header.book, header.rules)
 }
 
 // Writes the record of a feeder behind what is written. None where there is no room for it.
 fn put_record(feeder: &Feeder, writer: &mut Writer) -> Option<()>
     ensures { Wrote writer.old (encode feeder.now) writer.new result }
 {
-    put_header(feeder.header(), writer)?;
-    put_words(&feeder.plant.vocabulary(), writer)?;
+    writer.put(&feeder.header().encode())?;
+    writer.put_all(feeder.plant.vocabulary().arities.as_slice())?;
     put_plant(&feeder.plant, writer)?;
-    put_picture(&feeder.first, writer)?;
-    put_goal(&feeder.goal, writer)?;
+    writer.put_all(feeder.first.members().as_slice())?;
+    writer.put_all(feeder.goal.literals.as_slice())?;
     put_rules(&feeder.rules, writer)
 }
 
-// Writes the record of a feeder into a buffer and answers its length, which is at most 2915.
+// Writes the record of a feeder into a buffer and answers its length, which is at most LONGEST.
 // Places behind the record keep what they held, and a buffer that is too short keeps all.
 pub fn write(feeder: &Feeder, out: &mut [u8]) -> Result<usize, WriteRefusal>
     ensures answers { result ≡ answered WriteRefusal.Short (encode feeder.now) out.old }
     ensures after { out.new ≡ held (encode feeder.now) out.old }
-    ensures bound { length (encode feeder.now) ≤ 2915 }
+    ensures bound { length (encode feeder.now) ≤ LONGEST }
 {
     if record_length(feeder) > out.len() {
         return Err(WriteRefusal::Short);

@@ -10,8 +10,8 @@ const KEPT: usize = 34532;
 
 // The input, as far as it is kept.
 pub(crate) fn take_in<R: Read>(heap: Global, input: &mut R) -> io::Result<Vec<u8>>
-    ensures bound { IfOk result (λ v. vec_len v ≤ 34532) }
-    ensures front { IfOk result (λ v. IfSome (R.remaining input.old) (λ given. v.items ≡ take 34532 given)) }
+    ensures bound { IfOk result (λ v. vec_len v ≤ KEPT) }
+    ensures front { IfOk result (λ v. IfSome (R.remaining input.old) (λ given. v.items ≡ take KEPT given)) }
 {
     let mut bytes = Vec::new(heap);
     input.take(KEPT as u64).read_to_end(&mut bytes)?;

@@ -22,7 +22,7 @@ use crate::words::Words;
 use feeder::read::read;
 use feeder::record::Feeder;
 use feeder::refusal::ReadRefusal;
-use feeder::write::write;
+use feeder::write::{LONGEST, write};
 use std::alloc::{AllocError, Global};
 use std::io::Write;
 use std::{fmt, io};
@@ -51,12 +51,12 @@ fn report<'a>(
     )
 }
 
-// Whether the record of a feeder is these bytes. A record has at most 2915 bytes.
+// Whether the record of a feeder is these bytes.
 fn is_record(feeder: &Feeder, bytes: &[u8]) -> bool
     ensures { Decides result (encode feeder.now ≡ bytes.now) }
 {
     // a buffer of fixed size: the writer serves a panel too, so it takes one and allocates nothing
-    let mut buffer = [0u8; 2915];
+    let mut buffer = [0u8; LONGEST];
     let length = write(feeder, &mut buffer).unwrap();
     &buffer[..length] == bytes
 }

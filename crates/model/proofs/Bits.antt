@@ -2,8 +2,9 @@
 use Rattle.std.proofs.Common.{◌≡◌, ℕ, zero, suc, ◌+◌, ◌-◌, ◌*◌, ◌/◌, ◌%◌, ◌^◌, ◌<◌, ◌≤◌, Bool, true, false, not, ◌&&◌, ◌||◌, eqb, ltb, sym, refl, ap, ◌∙◌, ⊎_elim, pow-suc, arith, pow_mono}
 use mathlib.Core.Bool.{and_comm, or_comm}
 use native.Mathlib.Nat.{add-mul-div_right, div-eq_of_lt}
+use Rattle.std.specs.Int.Bits.{and_zero_r}
 use lib.Bits.{bit_and, bit_or}
-use Rattle.std.proofs.lemmas.Nat.{and_mask, and_mod, and_shr, mod_below, one_shl, or_mod, or_shr, pow-add, pow_below, pow_pos, shl-shr, shr_high, shr-shr}
+use Rattle.std.proofs.lemmas.Nat.{and_block, and_mask, and_mod, and_shr, div-add-mod', mod_below, or_mod, or_shr, pow-add, pow_below, pow_pos, shl-shr, shr_high, shr-shr}
 use Rattle.std.proofs.lemmas.Bool.{cases_lt, cases_order, eq-eqb, false≢true, le-ltb, lt-ltb, ne_eqb}
 use Rattle.model.specs.Pictures.{bit}
 
@@ -33,10 +34,6 @@ module _ (op : ℕ → ℕ → ℕ) (join : Bool → Bool → Bool)
 
 pub bit-bit_or : (a b k : ℕ) → bit (bit_or a b) k ≡ (bit a k || bit b k)
 bit-bit_or = each_bit bit_or ◌||◌ or_shr or_mod refl refl refl refl
-
--- the law of one bit
-one_or : (p q : ℕ) → p < 2 → q < 2 → eqb (bit_or p q) 1 ≡ (eqb p 1 || eqb q 1)
-one_or = one_bit bit_or ◌||◌ or_shr or_mod refl refl refl refl
 
 pub bit-bit_and : (a b k : ℕ) → bit (bit_and a b) k ≡ (bit a k && bit b k)
 bit-bit_and = each_bit bit_and ◌&&◌ and_shr and_mod refl refl refl refl
@@ -95,11 +92,10 @@ bit_power k j =
     (λ h. bit_past (2 ^ k) j (pow_below k j h) ∙ sym (ne_eqb j k (λ e. omega arith))))
     (cases_order j k)
 
--- bit k set in a number of w bits
-pub bit_joined : (w n k j : ℕ) → k < w → bit (bit_or n (1 * 2 ^ k % 2 ^ w)) j ≡ (eqb j k || bit n j)
-bit_joined w n k j h =
-    ap (λ (m : ℕ). bit (bit_or n m) j) (one_shl k w h)
-    ∙ bit-bit_or n (2 ^ k) j
+-- bit k set
+pub bit_joined : (n k j : ℕ) → bit (bit_or n (2 ^ k)) j ≡ (eqb j k || bit n j)
+bit_joined n k j =
+    bit-bit_or n (2 ^ k) j
     ∙ or_comm (bit n j) (bit (2 ^ k) j)
     ∙ ap (λ (b : Bool). b || bit n j) (bit_power k j)
 
@@ -107,6 +103,28 @@ bit_joined w n k j h =
 pub bit_shifted : (n k : ℕ) → eqb (bit_and (n / 2 ^ k) 1) 1 ≡ bit n k
 unfolding bit
 bit_shifted n k = ap (λ (x : ℕ). eqb x 1) (and_mask (n / 2 ^ k) 1)
+
+times_one : (x p : ℕ) → x < 2 → 0 < p → not (eqb (x * p) 0) ≡ eqb x 1
+times_one zero p h l = ap not (eq-eqb (zero * p) 0 (omega arith))
+times_one (suc zero) p h l = ap not (ne_eqb (suc zero * p) 0 (λ e. omega arith))
+times_one (suc (suc x)) p h l = absurd (omega arith)
+
+-- whether a number has a bit in common with the one in which just bit k is set
+pub bit_common : (n k : ℕ) → not (eqb (bit_and n (2 ^ k)) 0) ≡ bit n k
+unfolding bit
+bit_common n k =
+    let m = n / 2 ^ k in
+    let r = n % 2 ^ k in
+    let p = pow_pos k in
+    let a : n ≡ m * 2 ^ k + r = sym (div-add-mod' n (2 ^ k)) in
+    let b : 2 ^ k ≡ 1 * 2 ^ k + 0 = omega arith in
+    let e : bit_and n (2 ^ k) ≡ m % 2 * 2 ^ k =
+    ap (λ (x : ℕ). bit_and x (2 ^ k)) a
+    ∙ ap (bit_and (m * 2 ^ k + r)) b
+    ∙ and_block k m 1 r 0 (mod_below n (2 ^ k) p) p
+    ∙ omega (arith, and_zero_r r, ap (λ (x : ℕ). x * 2 ^ k) (and_mask m 1))
+    in
+    ap (λ (x : ℕ). not (eqb x 0)) e ∙ times_one (m % 2) (2 ^ k) (mod_below m 2 (omega arith)) p
 
 bit_half : (n k : ℕ) → bit (n / 2) k ≡ bit n (k + 1)
 unfolding bit
@@ -183,9 +201,8 @@ bit_mask n k =
     (cases_lt k n)
 
 -- bit k cleared in a number of w bits
-pub bit_cleared : (w n k j : ℕ) → k < w → j < w → bit (bit_and n (2 ^ w - 1 - 1 * 2 ^ k % 2 ^ w)) j ≡ (not (eqb j k) && bit n j)
+pub bit_cleared : (w n k j : ℕ) → k < w → j < w → bit (bit_and n (2 ^ w - 1 - 2 ^ k)) j ≡ (not (eqb j k) && bit n j)
 bit_cleared w n k j h l =
-    ap (λ (m : ℕ). bit (bit_and n (2 ^ w - 1 - m)) j) (one_shl k w h)
-    ∙ bit-bit_and n (2 ^ w - 1 - 2 ^ k) j
+    bit-bit_and n (2 ^ w - 1 - 2 ^ k) j
     ∙ and_comm (bit n j) (bit (2 ^ w - 1 - 2 ^ k) j)
     ∙ ap (λ (b : Bool). b && bit n j) (bit_flip w (2 ^ k) j (pow_below k w h) l ∙ ap not (bit_power k j))

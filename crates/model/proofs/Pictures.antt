@@ -1,15 +1,16 @@
 -- Pictures: a picture is known by its members, and they are sound.
-use Rattle.std.proofs.Common.{◌≡◌, ℕ, ◌+◌, ◌*◌, ◌/◌, ◌%◌, ◌^◌, ◌<◌, ◌≤◌, Bool, false, ◌||◌, eqb, List, [], ◌∷◌, ◌++◌, length, get_or, set, sym, refl, ap, ◌∙◌, ⊎_elim, arith}
+use Rattle.std.proofs.Common.{◌≡◌, ℕ, ◌+◌, ◌-◌, ◌*◌, ◌/◌, ◌%◌, ◌^◌, ◌<◌, ◌≤◌, Bool, false, not, ◌&&◌, ◌||◌, eqb, List, [], ◌∷◌, ◌++◌, length, get_or, set, Some, None, Option, sym, refl, ap, ◌∙◌, ⊎_elim, arith}
+use Rattle.std.specs.Prelude.{MatchOption}
 use denote.Struct.Record.{values_one}
-use lib.Bits.{bit_or}
-use Rattle.std.proofs.lemmas.Nat.{mod_below, or_lt}
+use lib.Bits.{bit_and, bit_or}
+use Rattle.std.proofs.lemmas.Nat.{mod_below, or_lt, pow_below}
 use Rattle.std.proofs.lemmas.List.{ext_get_or, get_or_past, get_or-set_other, get_or-set_same}
 use Rattle.std.proofs.lemmas.Bool.{cases_eq, eq-eqb, ne_eqb}
 use Rattle.model.specs.contracts.picture.Picture.{struct, the_propositions}
 use Rattle.model.specs.declared.picture.Picture.{Picture}
 use Rattle.model.specs.Ascents.{SoundFacts}
-use Rattle.model.specs.Pictures.{bit, holds, members}
-use Rattle.model.proofs.Bits.{bit_joined, bit_none, same_bits}
+use Rattle.model.specs.Pictures.{BitPlace, bit, holds, members}
+use Rattle.model.proofs.Bits.{bit_cleared, bit_common, bit_joined, bit_none, same_bits}
 use Rattle.model.proofs.Chosen.{chosen_few, chosen_known, chosen_none, chosen_push, chosen_sound}
 
 pub members_sound : (p : Picture) → SoundFacts (members p)
@@ -93,18 +94,35 @@ pub members_push : (p q : Picture) (f : ℕ) → f < 512 → ((g : ℕ) → hold
 unfolding members
 members_push p q f h e z = chosen_push 512 f (holds p) (holds q) h e z
 
--- the words in which the bit of one fact more is set, as the code sets it
-abbrev pub with_fact : List ℕ → ℕ → List ℕ
-with_fact words f = set words (f / 64) (bit_or (get_or words (f / 64) 0) (1 * 2 ^ (f % 64) % 2 ^ 64))
+-- the bit of a fact in its word
+pub place_bit : (words : List ℕ) (f : ℕ) (r : Option (ℕ × ℕ)) (b : Bool) → BitPlace f r
+    → MatchOption r (b ≡ false) (λ x. b ≡ not (eqb (bit_and (get_or words x.0 0) x.1) 0)) → length words ≡ 8
+    → b ≡ bit (get_or words (f / 64) 0) (f % 64)
+place_bit words f None b p m l = m ∙ sym (ap (λ (w : ℕ). bit w (f % 64)) (get_or_past words (f / 64) 0 (omega arith)) ∙ bit_none (f % 64))
+place_bit words f (Some (word, mask)) b p m l =
+    m
+    ∙ ap (λ (w : ℕ). not (eqb (bit_and (get_or words w 0) mask) 0)) p.1.0
+    ∙ ap (λ (x : ℕ). not (eqb (bit_and (get_or words (f / 64) 0) x) 0)) p.1.1
+    ∙ bit_common (get_or words (f / 64) 0) (f % 64)
 
-pub with_fact_bit : (words : List ℕ) (f : ℕ) → f / 64 < length words → (g : ℕ)
-    → bit (get_or (with_fact words f) (g / 64) 0) (g % 64) ≡ (eqb g f || bit (get_or words (g / 64) 0) (g % 64))
-with_fact_bit words f h =
-    changed_bit ◌||◌ (λ b. refl) words f _ h (λ j l. bit_joined 64 (get_or words (f / 64) 0) (f % 64) j (mod_below f 64 (omega arith)))
+-- the words in which the bit of one fact more is set
+pub with_fact : (words : List ℕ) (f word mask : ℕ) → BitPlace f (Some (word, mask)) → length words ≡ 8 → (g : ℕ)
+    → bit (get_or (set words word (bit_or (get_or words word 0) mask)) (g / 64) 0) (g % 64) ≡ (eqb g f || bit (get_or words (g / 64) 0) (g % 64))
+with_fact words f word mask p l g =
+    rw (p.1.0, p.1.1)
+    (changed_bit ◌||◌ (λ b. refl) words f _ (omega (arith, p.0)) (λ j h. bit_joined (get_or words (f / 64) 0) (f % 64) j) g)
 
-pub with_fact_small : (words : List ℕ) (f : ℕ) → f / 64 < length words → ((i : ℕ) → get_or words i 0 < 2 ^ 64)
-    → (i : ℕ) → get_or (with_fact words f) i 0 < 2 ^ 64
-with_fact_small words f h s =
-    let old = get_or words (f / 64) 0 in
-    let power : 1 * 2 ^ (f % 64) % 2 ^ 64 < 2 ^ 64 = mod_below (1 * 2 ^ (f % 64)) (2 ^ 64) (omega arith) in
-    changed_small words (f / 64) _ h s (or_lt 64 old (1 * 2 ^ (f % 64) % 2 ^ 64) (s (f / 64)) power)
+pub with_fact_small : (words : List ℕ) (f word mask : ℕ) → BitPlace f (Some (word, mask)) → length words ≡ 8
+    → ((i : ℕ) → get_or words i 0 < 2 ^ 64) → (i : ℕ) → get_or (set words word (bit_or (get_or words word 0) mask)) i 0 < 2 ^ 64
+with_fact_small words f word mask p l s =
+    let low = pow_below (f % 64) 64 (mod_below f 64 (omega arith)) in
+    changed_small words word _ (omega (arith, p.0, p.1.0)) s (or_lt 64 (get_or words word 0) mask (s word) (omega (arith, p.1.1)))
+
+-- the words in which the bit of a fact is cleared
+pub without_fact : (words : List ℕ) (f word mask : ℕ) → BitPlace f (Some (word, mask)) → length words ≡ 8 → (g : ℕ)
+    → bit (get_or (set words word (bit_and (get_or words word 0) (2 ^ 64 - 1 - mask))) (g / 64) 0) (g % 64)
+    ≡ (not (eqb g f) && bit (get_or words (g / 64) 0) (g % 64))
+without_fact words f word mask p l g =
+    rw (p.1.0, p.1.1)
+    (changed_bit (λ here old. not here && old) (λ b. refl) words f _ (omega (arith, p.0))
+    (λ j h. bit_cleared 64 (get_or words (f / 64) 0) (f % 64) j (mod_below f 64 (omega arith)) h) g)

@@ -20,6 +20,11 @@ place n Zero o r = 0
 place n One o r = o
 place n Two o r = o * n + r
 
+-- the object of a term, if it is one
+abbrev pub object_in : Term → Option ℕ
+object_in (Object o) = Some o
+object_in (Variable k) = None
+
 -- the object of a term that is one
 abbrev pub object_of : Term → ℕ
 object_of (Object o) = o

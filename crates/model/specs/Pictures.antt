@@ -1,5 +1,5 @@
 -- Pictures: which facts hold in one, and what it is made from.
-use Rattle.std.specs.Prelude.{◌≡◌, ℕ, zero, suc, ◌/◌, ◌%◌, ◌^◌, ◌<◌, ◌≤◌, Bool, true, false, cond, not, ◌&&◌, ◌||◌, List, [], ◌∷◌, ◌++◌, Some, None, Option, ◌==◌, slice_index}
+use Rattle.std.specs.Prelude.{◌≡◌, ℕ, zero, suc, ◌/◌, ◌%◌, ◌^◌, ◌<◌, ◌≤◌, Bool, cond, not, ◌&&◌, ◌||◌, List, [], ◌∷◌, ◌++◌, Some, None, Option, ◌==◌, slice_index}
 use Rattle.model.specs.declared.fact.Fact.{Fact}
 use Rattle.model.specs.declared.picture.Picture.{Picture}
 use Rattle.model.specs.Ascents.{SoundFacts, fact_numbers}
@@ -26,12 +26,17 @@ abbrev pub PictureMade : List Fact → Option Picture → Type 0
 PictureMade facts (Some p) = members p ≡ fact_numbers facts
 PictureMade facts None = SoundFacts (fact_numbers facts) → ⊥
 
+-- where the bit of a fact stands: its word, and the number in which just this bit is set; none where there is no such fact
+abbrev pub BitPlace : ℕ → Option (ℕ × ℕ) → Type 0
+BitPlace f (Some (word, mask)) = (f < 512) × ((word ≡ f / 64) × (mask ≡ 2 ^ (f % 64)))
+BitPlace f None = 512 ≤ f
+
 -- what adding a fact answers: whether there is such a fact; then just it is added, else the picture stays as it was
-abbrev pub Inserted : Picture → ℕ → Picture → Bool → Type 0
-Inserted before f after true = (f < 512) × ((g : ℕ) → holds after g ≡ (g == f || holds before g))
-Inserted before f after false = (512 ≤ f) × (after ≡ before)
+abbrev pub Inserted : Picture → ℕ → Picture → Option (Unit {0}) → Type 0
+Inserted before f after (Some _) = (f < 512) × ((g : ℕ) → holds after g ≡ (g == f || holds before g))
+Inserted before f after None = (512 ≤ f) × (after ≡ before)
 
 -- what taking a fact away answers: whether there is such a fact; then just it is gone, else the picture stays as it was
-abbrev pub Removed : Picture → ℕ → Picture → Bool → Type 0
-Removed before f after true = (f < 512) × ((g : ℕ) → holds after g ≡ (not (g == f) && holds before g))
-Removed before f after false = (512 ≤ f) × (after ≡ before)
+abbrev pub Removed : Picture → ℕ → Picture → Option (Unit {0}) → Type 0
+Removed before f after (Some _) = (f < 512) × ((g : ℕ) → holds after g ≡ (not (g == f) && holds before g))
+Removed before f after None = (512 ≤ f) × (after ≡ before)

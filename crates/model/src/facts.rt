@@ -1,6 +1,6 @@
 ghost use Rattle.std.specs.Prelude.{◌≡◌, ℕ, false, length};
 ghost use Rattle.model.specs.Ascents.{fact_numbers};
-ghost use Rattle.model.specs.Pictures.{Inserted, PictureMade, Removed, holds, members};
+ghost use Rattle.model.specs.Pictures.{BitPlace, Inserted, PictureMade, Removed, holds, members};
 
 use crate::fact::Fact;
 use crate::picture::Picture;
@@ -19,14 +19,12 @@ impl Picture {
     pub fn new(facts: &[Fact]) -> Option<Picture>
         ensures { PictureMade facts.now result }
     {
+        if !facts.is_sorted_by(|a, b| a < b) {
+            return None;
+        }
         let mut picture = Picture::empty();
-        // the least number that the next fact may have
-        let mut least = 0;
         for fact in facts {
-            if fact.number < least || !picture.insert(*fact) {
-                return None;
-            }
-            least = fact.number + 1;
+            picture.insert(*fact)?;
         }
         Some(picture)
     }
@@ -35,35 +33,26 @@ impl Picture {
     pub fn holds(&self, fact: Fact) -> bool
         ensures { result ≡ holds self.now fact.number }
     {
-        if fact.number >= 512 {
-            return false;
-        }
-        let word = self.words[(fact.number / 64) as usize];
-        (word >> (fact.number % 64)) & 1 == 1
+        place(fact).is_some_and(|(word, bit)| self.words[word] & bit != 0)
     }
 
-    // Adds a fact. It answers whether the fact is below 512; if not, the picture stays as it was.
-    // A truth value and no Option: there is nothing to hand on, and most callers know the fact to be below 512.
-    pub fn insert(&mut self, fact: Fact) -> bool
+    // Adds a fact. None where the fact is not below 512; then the picture stays as it was.
+    pub fn insert(&mut self, fact: Fact) -> Option<()>
         ensures { Inserted self.old fact.number self.new result }
     {
-        if fact.number >= 512 {
-            return false;
-        }
-        self.words[(fact.number / 64) as usize] |= 1 << (fact.number % 64);
-        true
+        let (word, bit) = place(fact)?;
+        self.words[word] |= bit;
+        Some(())
     }
 
-    // Takes a fact away. It answers whether the fact is below 512; if not, the picture stays as it was.
-    // A truth value as in `insert`, and a function of its own, as sets of the library have.
-    pub fn remove(&mut self, fact: Fact) -> bool
+    // Takes a fact away. None where the fact is not below 512; then the picture stays as it was.
+    // A function of its own, as sets of the library have.
+    pub fn remove(&mut self, fact: Fact) -> Option<()>
         ensures { Removed self.old fact.number self.new result }
     {
-        if fact.number < 512 {
-            self.words[(fact.number / 64) as usize] &= !(1 << (fact.number % 64));
-            return true;
-        }
-        false
+        let (word, bit) = place(fact)?;
+        self.words[word] &= !bit;
+        Some(())
     }
 
     // The facts that hold, ascending.
@@ -81,4 +70,15 @@ impl Picture {
         }
         facts
     }
+}
+
+// Where the bit of a fact stands: its word, and the number in which just this bit is set.
+// None where the fact is not below 512.
+fn place(fact: Fact) -> Option<(usize, u64)>
+    ensures { BitPlace fact.number result }
+{
+    if fact.number >= 512 {
+        return None;
+    }
+    Some(((fact.number / 64) as usize, 1 << (fact.number % 64)))
 }

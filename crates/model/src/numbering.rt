@@ -1,6 +1,6 @@
 ghost use Rattle.std.specs.Prelude.{◌≡◌, ◌<◌, ◌≤◌, true, Some};
 ghost use Rattle.model.specs.Facts.{facts_of};
-ghost use Rattle.model.specs.Numbering.{AtomFound, fact_of, object_of, place};
+ghost use Rattle.model.specs.Numbering.{AtomFound, fact_of, object_in, object_of, place};
 ghost use Rattle.model.specs.Vocabularies.{terms_fit};
 
 use crate::fact::Fact;
@@ -9,13 +9,13 @@ use crate::term::{Atom, Term};
 use crate::vocabulary::{Arity, Vocabulary};
 
 impl Term {
-    // The number of its object, and 0 for a variable.
-    fn object(self) -> u8
-        ensures { result ≡ object_of self }
+    // The number of its object; none for a variable.
+    fn object(self) -> Option<u8>
+        ensures { result ≡ object_in self }
     {
         match self {
-            Term::Object(o) => o,
-            Term::Variable(_) => 0,
+            Term::Object(o) => Some(o),
+            Term::Variable(_) => None,
         }
     }
 }
@@ -32,12 +32,7 @@ impl Vocabulary {
         let p = atom.predicate as usize;
         // those before it: `has` says that there is such a predicate
         let first = total(self.objects, &arities[0..p]);
-        let at = place_of(
-            self.objects,
-            arities[p],
-            atom.first.object(),
-            atom.second.object(),
-        );
+        let at = self.place_of(arities[p], atom.first.object()?, atom.second.object()?);
         Some(Fact { number: first + at })
     }
 
@@ -49,7 +44,7 @@ impl Vocabulary {
         for (p, arity) in self.arities.as_slice().iter().enumerate() {
             let size = arity.facts(self.objects);
             if left < size {
-                let (first, second) = terms_at(self.objects, *arity, left);
+                let (first, second) = self.terms_at(*arity, left);
                 return Some(Atom {
                     predicate: p as u8,
                     first,
@@ -60,31 +55,30 @@ impl Vocabulary {
         }
         None
     }
-}
 
-// The place of the fact of two objects among those of its predicate.
-fn place_of(objects: u8, arity: Arity, o: u8, r: u8) -> u16
-    requires { objects ≤ 16 }
-    ensures place { result ≡ place objects arity o r }
-    ensures bound { result ≤ 4335 }
-{
-    match arity {
-        Arity::Zero => 0,
-        Arity::One => o as u16,
-        Arity::Two => o as u16 * objects as u16 + r as u16,
+    // The place of the fact of two objects among those of its predicate.
+    fn place_of(&self, arity: Arity, o: u8, r: u8) -> u16
+        ensures place { result ≡ place self.now.objects arity o r }
+        ensures bound { result ≤ 4335 }
+    {
+        match arity {
+            Arity::Zero => 0,
+            Arity::One => o as u16,
+            Arity::Two => o as u16 * self.objects as u16 + r as u16,
+        }
     }
-}
 
-// The terms of the fact in a place among those of its predicate.
-fn terms_at(objects: u8, arity: Arity, at: u16) -> (Term, Term)
-    requires { (0 < objects) × ((objects ≤ 16) × (at < facts_of objects arity)) }
-    ensures place { place objects arity (object_of result.0) (object_of result.1) ≡ at }
-    ensures fits { terms_fit objects 0 (Some arity) result.0 result.1 ≡ true }
-{
-    let n = objects as u16;
-    match arity {
-        Arity::Zero => (Term::Object(0), Term::Object(0)),
-        Arity::One => (Term::Object(at as u8), Term::Object(0)),
-        Arity::Two => (Term::Object((at / n) as u8), Term::Object((at % n) as u8)),
+    // The terms of the fact in a place among those of its predicate.
+    fn terms_at(&self, arity: Arity, at: u16) -> (Term, Term)
+        requires { at < facts_of self.now.objects arity }
+        ensures place { place self.now.objects arity (object_of result.0) (object_of result.1) ≡ at }
+        ensures fits { terms_fit self.now.objects 0 (Some arity) result.0 result.1 ≡ true }
+    {
+        let n = self.objects as u16;
+        match arity {
+            Arity::Zero => (Term::Object(0), Term::Object(0)),
+            Arity::One => (Term::Object(at as u8), Term::Object(0)),
+            Arity::Two => (Term::Object((at / n) as u8), Term::Object((at % n) as u8)),
+        }
     }
 }

@@ -36,10 +36,7 @@ impl Term {
     pub fn is_blank(self) -> bool
         ensures { result ≡ term_blank self }
     {
-        match self {
-            Term::Object(o) => o == 0,
-            Term::Variable(_) => false,
-        }
+        self == Term::Object(0)
     }
 }
 
@@ -51,7 +48,7 @@ impl Vocabulary {
     {
         let table = Table::new(arities)?;
         // counted from numbers: there is no vocabulary before the sum is known to be small enough
-        if objects == 0 || objects > 16 || arities.is_empty() || total(objects, arities) > 512 {
+        if !(1..=16).contains(&objects) || arities.is_empty() || total(objects, arities) > 512 {
             return None;
         }
         Some(Vocabulary {
@@ -95,9 +92,5 @@ pub(crate) fn total(objects: u8, arities: &[Arity]) -> u16
     ensures sum { result ≡ facts objects arities.now }
     ensures bound { result ≤ 4096 }
 {
-    let mut sum = 0;
-    for a in arities {
-        sum += a.facts(objects);
-    }
-    sum
+    arities.iter().map(|a| a.facts(objects)).sum()
 }

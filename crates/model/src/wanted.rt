@@ -44,5 +44,5 @@ impl Goal {
 fn ascend(literals: &[Literal]) -> bool
     ensures { Decides result (Ascending (literal_facts literals.now)) }
 {
-    literals.is_sorted_by(|a, b| a.fact.number < b.fact.number)
+    literals.is_sorted_by(|a, b| a.fact < b.fact)
 }

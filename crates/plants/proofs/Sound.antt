@@ -4,14 +4,9 @@ use Rattle.model.specs.declared.vocabulary.Arity.{Arity}
 use Rattle.model.specs.Facts.{arity_byte}
 use Rattle.plants.specs.declared.actions.ActionTable.{ActionTable}
 use Rattle.plants.specs.declared.network.Network.{Network}
-use Rattle.plants.specs.declared.operator.Operator.{Operator}
 use Rattle.plants.specs.Actions.{SoundActions}
 use Rattle.plants.specs.Networks.{SoundNetwork}
-use Rattle.plants.specs.Operators.{SoundOperator}
 use Rattle.plants.specs.Switches.{network_arities}
-
-pub operator_sound : (op : Operator) → SoundOperator op.parameters op.needs op.effects
-operator_sound op = record { narrow = op.narrow; before = op.before; after = op.after }
 
 pub actions_sound : (t : ActionTable) → SoundActions t.vocabulary t.operators
 actions_sound t = record { few = t.few; fits = t.fits }

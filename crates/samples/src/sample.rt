@@ -2,12 +2,9 @@
 use crate::answer;
 use feeder::read::read;
 use feeder::record::Feeder;
-use feeder::write::write;
+use feeder::write::{LONGEST, write};
 use std::process::Abort;
 use std::test::Fail;
-
-// How many bytes the longest record has.
-const LONGEST: usize = 2915;
 
 // A buffer before anything is written.
 const BLANK: [u8; LONGEST] = [165; LONGEST];

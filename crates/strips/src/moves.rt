@@ -102,10 +102,10 @@ fn write(picture: &mut Picture, sign: Sign, effect: Literal)
 {
     match (sign, effect.sign) {
         (Sign::Negative, Sign::Negative) => {
-            picture.remove(effect.fact);
+            picture.remove(effect.fact).unwrap();
         }
         (Sign::Positive, Sign::Positive) => {
-            picture.insert(effect.fact);
+            picture.insert(effect.fact).unwrap();
         }
         _ => {}
     }

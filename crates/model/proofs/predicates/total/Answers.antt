@@ -1,30 +1,21 @@
-use Rattle.std.proofs.Common.{◌≡◌, ◌+◌, get_or, take, ap, ◌∙◌, arith}
-use Rattle.std.proofs.lemmas.List.{take_all, take_more}
-use Rattle.model.specs.declared.vocabulary.Arity.TheVariants.{Zero}
+-- The facts of predicates are those of each, added up.
+use Rattle.std.proofs.Common.{rules, ◌≡◌, ℕ, ◌*◌, ◌≤◌, List, [], ◌∷◌, length, sym, refl, ◌∙◌, arith}
+use Rattle.std.specs.List.{sum_by}
+use Rattle.std.proofs.lemmas.List.Recursion.{is_sum_by}
+use Rattle.std.proofs.iter.runs.Made.{chains}
+use Rattle.model.specs.declared.vocabulary.Arity.{Arity}
 use Rattle.model.specs.Facts.{facts, facts_of}
-use Rattle.model.proofs.Counting.{facts_most, facts_push}
+use Rattle.model.proofs.Counting.{facts_most}
 use Rattle.model.proofs.predicates.total.Goals as goal
 
-pub overflow_add-sum : goal.overflow_add-sum
-overflow_add-sum c =
-    let m = facts_most c.args.objects (get_or c.args.arities.now c.loop-a.a-index Zero) c.requires.1 in
-    omega (arith, c.facts-sum.ensures, c.requires.0)
-
-pub loop-a-preserved : goal.loop-a-preserved
-loop-a-preserved c =
-    let n = c.args.objects in
-    let xs = c.args.arities.now in
-    let i = c.loop-a.a-index in
-    let a = get_or xs i Zero in
-    let m = facts_most n a c.requires.1 in
-    let t : facts n (take (i + 1) xs) ≡ facts n (take i xs) + facts_of n a =
-    ap (facts n) (take_more xs i Zero (omega arith)) ∙ facts_push n (take i xs) a
-    in
-    (omega (arith, c.facts-sum.ensures), omega (arith, c.facts-sum.ensures))
+most : (n : ℕ) (xs : List Arity) → n ≤ 16 → facts n xs ≤ 256 * length xs
+most n [] h = omega arith
+most n (a ∷ xs) h = omega (arith, most n xs h, facts_most n a h)
 
 pub returns : goal.returns
 returns c =
-    record {
-      sum = c.loop-a.invariant.0 ∙ ap (facts c.args.objects) (take_all c.loop-a.a-index c.args.arities.now (omega arith));
-      bound = omega (arith, c.requires.0);
-    }
+    let n = c.args.objects in
+    let all = c.args.arities.now in
+    let added = is_sum_by (facts n) (facts_of n) refl (λ a xs. refl) all in
+    let e : c.sum.result ≡ sum_by (facts_of n) all = search (rules, chains) in
+    record { sum = e ∙ sym added; bound = omega (arith, most n all c.requires.1, c.requires.0) }

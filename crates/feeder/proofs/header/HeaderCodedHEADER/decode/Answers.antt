@@ -2,7 +2,7 @@ use Rattle.std.proofs.Common.{ℕ, List, get_or, ap, arith, rules}
 use Rattle.feeder.specs.Headers.{header_bytes, within_limits}
 use Rattle.feeder.proofs.Heads.{header_made}
 use Rattle.feeder.proofs.Known.{decoded_tested, header_known}
-use Rattle.feeder.proofs.header.HeaderCoded11.decode.Goals as goal
+use Rattle.feeder.proofs.header.HeaderCodedHEADER.decode.Goals as goal
 
 pub returns : goal.returns
 returns c =

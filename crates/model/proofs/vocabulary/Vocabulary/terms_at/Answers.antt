@@ -7,7 +7,7 @@ use Rattle.model.specs.declared.term.Term.TheVariants.{Object}
 use Rattle.model.specs.Facts.{facts_of}
 use Rattle.model.specs.Numbering.{place}
 use Rattle.model.specs.Vocabularies.{terms_fit}
-use Rattle.model.proofs.numbering.terms_at.Goals as goal
+use Rattle.model.proofs.vocabulary.Vocabulary.terms_at.Goals as goal
 
 -- the row of a place lies within the objects
 row_below : (n at : ℕ) (a : Arity) → 0 < n → a ≡ Two → at < facts_of n a → at / n < n
@@ -15,17 +15,17 @@ row_below n at a z e h = div_below at n n z (subst (λ (b : Arity). at < facts_o
 
 pub overflow_cast-result-in-Two : goal.overflow_cast-result-in-Two
 overflow_cast-result-in-Two c =
-    omega (arith, row_below c.args.objects c.args.at c.args.arity c.requires.0 c.in-Two.is c.requires.1.1, c.requires.1.0)
+    omega (arith, row_below c.args.self.now.objects c.args.at c.args.arity c.args.self.now.low c.in-Two.is c.requires, c.args.self.now.high)
 
 pub returns-in-Two : goal.returns-in-Two
 returns-in-Two c =
-    let n = c.args.objects in
+    let n = c.args.self.now.objects in
     let at = c.args.at in
     record {
       place = ap (λ (a : Arity). place n a (at / n) (at % n)) c.in-Two.is ∙ div-add-mod' at n;
       fits =
           ap (λ (a : Arity). terms_fit n 0 (Some a) (Object (at / n)) (Object (at % n))) c.in-Two.is
           ∙ and_from (ltb (at / n) n) (ltb (at % n) n)
-          (lt-ltb (at / n) n (row_below n at c.args.arity c.requires.0 c.in-Two.is c.requires.1.1))
-          (lt-ltb (at % n) n (mod_below at n c.requires.0));
+          (lt-ltb (at / n) n (row_below n at c.args.arity c.args.self.now.low c.in-Two.is c.requires))
+          (lt-ltb (at % n) n (mod_below at n c.args.self.now.low));
     }
