@@ -46,11 +46,11 @@ impl Coded<5> for Line {
 
     ghost one = { Prim.search rules };
 
-    fn decode(bytes: &[u8; 5]) -> Option<Line> {
+    fn from_array(bytes: &[u8; 5]) -> Option<Line> {
         let [from, sign, high, low, to] = *bytes;
         Some(Line {
             from,
-            literal: Literal::decode(&[sign, high, low])?,
+            literal: Literal::from_array(&[sign, high, low])?,
             to,
         })
     }

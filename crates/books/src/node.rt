@@ -69,13 +69,13 @@ impl Coded<4> for Node {
 
     ghost one = { Prim.search rules };
 
-    fn decode(bytes: &[u8; 4]) -> Option<Node> {
+    fn from_array(bytes: &[u8; 4]) -> Option<Node> {
         match *bytes {
             [0, 0, 0, 0] => Some(Node::True),
             [1, 0, 0, 0] => Some(Node::False),
-            [2, p, s, t] => Some(Node::Atom(Atom::decode(&[p, s, t])?)),
-            [3, p, s, t] => Some(Node::Goal(Atom::decode(&[p, s, t])?)),
-            [4, 0, s, t] => Some(Node::Same(Term::decode(&[s])?, Term::decode(&[t])?)),
+            [2, p, s, t] => Some(Node::Atom(Atom::from_array(&[p, s, t])?)),
+            [3, p, s, t] => Some(Node::Goal(Atom::from_array(&[p, s, t])?)),
+            [4, 0, s, t] => Some(Node::Same(Term::from_array(&[s])?, Term::from_array(&[t])?)),
             [5, a, 0, 0] => Some(Node::Not(a)),
             [6, a, b, 0] => Some(Node::And(a, b)),
             [7, a, b, 0] => Some(Node::Or(a, b)),

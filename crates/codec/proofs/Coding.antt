@@ -38,7 +38,7 @@ every_push test [] x e h = and_from (test x) true h refl
 every_push test (y ∷ xs) x e h =
     let p = and_parts (test y) (list_all test xs) e in and_from (test y) (list_all test (xs ++ (x ∷ []))) p.0 (every_push test xs x p.1 h)
 
--- what list_all value passes, each does
+-- what every value passes, each does
 pub every_at : {A : Type 0} (test : A → Bool) (xs : List A) (d : A) (i : ℕ) → list_all test xs ≡ true → i < length xs → test (get_or xs i d) ≡ true
 every_at test [] d i e h = absurd (omega arith)
 every_at test (x ∷ xs) d zero e h = (and_parts (test x) (list_all test xs) e).0
@@ -51,18 +51,15 @@ module _ {A : Type 0} (code : A → List ℕ) (proper : A → Bool) (size : ℕ)
       length-append (code x) (flat_map code xs)
       ∙ omega (arith, fixed x, length_joined xs, mul-suc size (length xs))
 
-  -- Where some values and then a rest make up the codes of a list, there are more values in it, and the rest begins with
-  -- the code of the next one.
-  pub next_value : (done xs : List A) (rest : List ℕ) → 0 < length rest → list_all proper xs ≡ true → flat_map code done ++ rest ≡ flat_map code xs
-      → (length done < length xs) × ((x : A) × (ys : List A) × (proper x ≡ true) × (rest ≡ code x ++ flat_map code ys))
-  next_value [] [] rest h e q = absurd (omega (arith, ap length q))
-  next_value [] (x ∷ xs) rest h e q = (omega arith, (x, xs, (and_parts (proper x) (list_all proper xs) e).0, q))
-  next_value (d ∷ done) [] rest h e q = absurd (omega (arith, ap length q, length-append (flat_map code (d ∷ done)) rest))
-  next_value (d ∷ done) (x ∷ xs) rest h e q =
-      let n = next_value done xs rest h (and_parts (proper x) (list_all proper xs) e).1
+  -- Where some values and then a rest make up the codes of a longer list, the rest begins with the code of the next value.
+  pub next_value : (done xs : List A) (rest : List ℕ) → list_all proper xs ≡ true → length done < length xs → flat_map code done ++ rest ≡ flat_map code xs
+      → (x : A) × (ys : List A) × (proper x ≡ true) × (rest ≡ code x ++ flat_map code ys)
+  next_value [] [] rest e h q = absurd (omega arith)
+  next_value [] (x ∷ xs) rest e h q = (x, xs, (and_parts (proper x) (list_all proper xs) e).0, q)
+  next_value (d ∷ done) [] rest e h q = absurd (omega arith)
+  next_value (d ∷ done) (x ∷ xs) rest e h q =
+      next_value done xs rest (and_parts (proper x) (list_all proper xs) e).1 (omega arith)
       (same_back (code d) (code x) _ _ (fixed d ∙ sym (fixed x)) (sym (append_assoc (code d) (flat_map code done) rest) ∙ q))
-      in
-      (omega (arith, n.0), n.1)
 
   -- Two lists of as many values with the same codes are the same, where a value is known by its code.
   pub same_joined : ((x y : A) → proper x ≡ true → proper y ≡ true → code x ≡ code y → x ≡ y)

@@ -7,11 +7,18 @@ abbrev pub Decoded : {A : Type 0} → (A → List ℕ) → (A → Bool) → List
 Decoded code proper bytes (Some x) = (code x ≡ bytes) × (proper x ≡ true)
 Decoded {A} code proper bytes None = (x : A) → proper x ≡ true → code x ≢ bytes
 
--- What decoding a list answers: the proper values whose joined codes the bytes are, or none where the bytes are those of
+-- What decoding a list of a given length answers: that the bytes are the joined codes of the proper values now held, or
+-- none where they are those of no list of proper values of that length.
+abbrev pub ListDecoded : {A : Type 0} → (A → List ℕ) → (A → Bool) → List ℕ → ℕ → List A → Option (Unit {0}) → Type 0
+ListDecoded code proper bytes count items (Some _) = (flat_map code items ≡ bytes) × (list_all proper items ≡ true)
+ListDecoded {A} code proper bytes count items None =
+    (xs : List A) → length xs ≡ count → list_all proper xs ≡ true → flat_map code xs ≢ bytes
+
+-- What decoding a table answers: the proper values whose joined codes the bytes are, or none where the bytes are those of
 -- no list of proper values for which there are places.
-abbrev pub ListDecoded : {A : Type 0} → (A → List ℕ) → (A → Bool) → ℕ → List ℕ → Option (List A) → Type 0
-ListDecoded code proper places bytes (Some xs) = (flat_map code xs ≡ bytes) × (list_all proper xs ≡ true) × (length xs ≤ places)
-ListDecoded {A} code proper places bytes None =
+abbrev pub TableDecoded : {A : Type 0} → (A → List ℕ) → (A → Bool) → ℕ → List ℕ → Option (List A) → Type 0
+TableDecoded code proper places bytes (Some xs) = (flat_map code xs ≡ bytes) × (list_all proper xs ≡ true) × (length xs ≤ places)
+TableDecoded {A} code proper places bytes None =
     (xs : List A) → length xs ≤ places → list_all proper xs ≡ true → flat_map code xs ≢ bytes
 
 -- What encoding a list answers: that the buffer holds the codes of values that a record can hold, or none where it has

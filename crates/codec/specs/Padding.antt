@@ -6,7 +6,7 @@ use Rattle.std.proofs.lemmas.Bool.{cases_lt}
 use Rattle.codec.specs.Codes.{Unused, table_of}
 
 module _ {A : Type 0} (blank : A) where
-  replicate_any : (n i : ℕ) → get_or (replicate n blank) i blank ≡ blank
+  pub replicate_any : (n i : ℕ) → get_or (replicate n blank) i blank ≡ blank
   replicate_any n i =
       ⊎_elim (λ h. get_or-replicate n i blank blank h) (λ h. get_or_past (replicate n blank) i blank (omega (arith, length-replicate n blank))) (cases_lt i n)
 

@@ -1,4 +1,4 @@
-ghost use Rattle.std.specs.Prelude.{◌≡◌, ◌≤◌, ℕ, Bool, true, List, length};
+ghost use Rattle.std.specs.Prelude.{◌≡◌, ◌<◌, ◌^◌, ℕ, Bool, true, List, length};
 ghost use Rattle.codec.specs.Codes.{Decoded};
 
 // A kind of value that a record holds in a fixed number of bytes.
@@ -10,15 +10,26 @@ pub trait Coded<const WIDTH: usize>: Copy {
     ghost proper: { Self → Bool };
 
     // The value that has these bytes, or none where no value has them.
-    fn decode(bytes: &[u8; WIDTH]) -> Option<Self>
+    fn from_array(bytes: &[u8; WIDTH]) -> Option<Self>
         ensures { Decoded code proper bytes.now result };
+
+    // The value that has just these bytes, or none where no value has them: bytes of another number are of none.
+    final fn decode(bytes: &[u8]) -> Option<Self>
+        ensures { Decoded code proper bytes.now result }
+    {
+        let (front, rest) = bytes.split_first_chunk::<WIDTH>()?;
+        if !rest.is_empty() {
+            return None;
+        }
+        Self::from_array(front)
+    }
 
     // The bytes of a value that a record can hold.
     fn encode(&self) -> [u8; WIDTH]
         ensures { proper self.now ≡ true → result ≡ code self.now };
 
-    // that number is small
-    ghost narrow: { WIDTH ≤ 16 };
+    // an array can have that many bytes
+    ghost narrow: { WIDTH < 2 ^ 63 };
 
     // each value has as many bytes
     ghost fixed: { (x : Self) → length (code x) ≡ WIDTH };

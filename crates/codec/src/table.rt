@@ -1,5 +1,5 @@
-ghost use Rattle.std.specs.Prelude.{◌≡◌, ◌≤◌, length, []};
-ghost use Rattle.codec.specs.Codes.{table_of};
+ghost use Rattle.std.specs.Prelude.{◌≡◌, ◌≤◌, length, take, [], ⊤};
+ghost use Rattle.codec.specs.Codes.{Unused, table_of};
 ghost use Rattle.codec.specs.Tables.{Pushed, TableMade};
 
 use crate::blank::Blank;
@@ -37,6 +37,8 @@ impl<T: Blank, const N: usize> Model for Table<T, N> {
 impl<T: Blank, const N: usize> Clone for Table<T, N> {
     ghost is_clone = { λ x y. y ≡ x };
 
+    ghost is_infallible = { λ _. ⊤ };
+
     fn clone(&self) -> Result<Self, AllocError> {
         Ok(*self)
     }
@@ -54,6 +56,8 @@ impl<T: Blank, const N: usize> Table<T, N> {
     }
 
     // The table of these values. None where there are more than it has places for.
+    // Always inline, as all that makes a table: else each call copies it once more.
+    #[inline(always)]
     pub fn new(items: &[T]) -> Option<Self>
         ensures { TableMade N items.now result }
     {
@@ -64,6 +68,16 @@ impl<T: Blank, const N: usize> Table<T, N> {
             places: padded(T::default(), items),
             count: items.len(),
         })
+    }
+
+    // The table of the values in the first places, if the blank value stands in each place behind them.
+    #[inline(always)]
+    pub(crate) fn of(places: [T; N], count: usize) -> Self
+        requires few { count ≤ N }
+        requires rest { Unused T.Blank.blank places count }
+        ensures { result ≡ take count places }
+    {
+        Table { places, count }
     }
 
     // How many values there are.
@@ -98,6 +112,7 @@ impl<T: Blank, const N: usize> Table<T, N> {
 
 // An array of N places: the values in their order, and `blank` in each place behind them.
 // Values for which there is no place are left out.
+#[inline(always)]
 pub fn padded<T: Copy, const N: usize>(blank: T, items: &[T]) -> [T; N]
     ensures { result ≡ table_of N blank items.now }
 {

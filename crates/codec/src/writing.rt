@@ -1,6 +1,7 @@
 ghost use Rattle.codec.specs.Writing.{Wrote, WroteAll};
 
 use crate::coded::Coded;
+use crate::list::encode_list;
 use crate::writer::Writer;
 
 impl<'a> Writer<'a> {
@@ -21,9 +22,13 @@ impl<'a> Writer<'a> {
     pub fn put_all<T: Coded<WIDTH>, const WIDTH: usize>(&mut self, items: &[T]) -> Option<()>
         ensures { WroteAll T.Coded.code T.Coded.proper WIDTH items.now self.old self.new result }
     {
-        for x in items {
-            self.put(&x.encode())?;
+        let size = WIDTH.checked_mul(items.len())?;
+        let behind = self.at.checked_add(size)?;
+        if behind > self.out.len() {
+            return None;
         }
+        encode_list(items, &mut self.out[self.at..behind])?;
+        self.at = behind;
         Some(())
     }
 }

@@ -37,7 +37,7 @@ impl Coded<1> for PlantKind {
 
     ghost one = { Prim.search rules };
 
-    fn decode(bytes: &[u8; 1]) -> Option<PlantKind> {
+    fn from_array(bytes: &[u8; 1]) -> Option<PlantKind> {
         match *bytes {
             [1] => Some(PlantKind::Actions),
             [2] => Some(PlantKind::Network),
@@ -64,7 +64,7 @@ impl Coded<1> for BookKind {
 
     ghost one = { Prim.search rules };
 
-    fn decode(bytes: &[u8; 1]) -> Option<BookKind> {
+    fn from_array(bytes: &[u8; 1]) -> Option<BookKind> {
         match *bytes {
             [1] => Some(BookKind::Formula),
             [2] => Some(BookKind::Chart),
@@ -148,7 +148,7 @@ impl Coded<HEADER> for Header {
 
     ghost one = { Prim.search rules };
 
-    fn decode(bytes: &[u8; HEADER]) -> Option<Header> {
+    fn from_array(bytes: &[u8; HEADER]) -> Option<Header> {
         let [
             version,
             plant,
@@ -166,11 +166,11 @@ impl Coded<HEADER> for Header {
             return None;
         }
         let header = Header {
-            plant: PlantKind::decode(&[plant])?,
+            plant: PlantKind::from_array(&[plant])?,
             objects,
             predicates,
             rows,
-            book: BookKind::decode(&[book])?,
+            book: BookKind::from_array(&[book])?,
             rules,
             goal,
             limit,

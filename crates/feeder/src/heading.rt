@@ -14,7 +14,7 @@ pub(crate) fn read_header(bytes: &[u8]) -> Result<Header, ReadRefusal>
     if front[0] != VERSION {
         return Err(ReadRefusal::Version);
     }
-    Header::decode(front).ok_or(ReadRefusal::Header)
+    Header::from_array(front).ok_or(ReadRefusal::Header)
 }
 
 // The places of the parts: the fourth check.

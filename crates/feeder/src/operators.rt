@@ -3,7 +3,7 @@ ghost use Rattle.plants.specs.Operators.{operator_bytes};
 ghost use Rattle.feeder.specs.Operators.{OperatorsRead, operator_holds};
 
 use crate::layout::{HEAD, LIFTED, operator_bytes};
-use codec::list::decode_list;
+use codec::list::decode_table;
 use codec::table::Table;
 use plants::literal::LiftedLiteral;
 use plants::operator::Operator;
@@ -18,9 +18,9 @@ fn operator_of(bytes: &[u8]) -> Option<Operator>
     if back.len() != LIFTED * after as usize {
         return None;
     }
-    let needs: Table<LiftedLiteral, 8> = decode_list(front)?;
-    let effects: Table<LiftedLiteral, 8> = decode_list(back)?;
-    Operator::new(parameters, needs.as_slice(), effects.as_slice())
+    let needs: Table<LiftedLiteral, 8> = decode_table(front)?;
+    let effects: Table<LiftedLiteral, 8> = decode_table(back)?;
+    Operator::of(parameters, needs.as_slice(), effects.as_slice())
 }
 
 // So many operators, at most 16, whose bytes these are, or none where no operators have them.

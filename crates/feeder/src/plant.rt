@@ -9,7 +9,7 @@ use crate::operators::operators_of;
 use crate::reading::Reading;
 use crate::refusal::ReadRefusal;
 use crate::tables::PlantTable;
-use codec::list::decode_list;
+use codec::list::decode_table;
 use codec::table::Table;
 use plants::actions::ActionTable;
 use plants::network::{Network, Switch};
@@ -33,7 +33,7 @@ impl Reading<'_> {
         ensures { PartRead (SuitPlant self.now.header self.now.vocabulary) plant_bytes bytes.now result }
     {
         let (front, fed) = bytes.split_last_chunk::<FED>()?;
-        let switches: Table<Switch, 16> = decode_list(front)?;
+        let switches: Table<Switch, 16> = decode_table(front)?;
         let network = Network::new(
             self.vocabulary,
             switches.as_slice(),

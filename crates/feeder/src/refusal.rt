@@ -36,6 +36,6 @@ impl WriteRefusal {
     pub fn number(self) -> u8
         ensures { result ≡ write_number self }
     {
-        self as u8
+        WriteRefusal::Short as u8
     }
 }

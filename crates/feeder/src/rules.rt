@@ -11,7 +11,7 @@ use books::chart::Chart;
 use books::formula::FormulaTable;
 use books::line::Line;
 use books::node::Node;
-use codec::list::decode_list;
+use codec::list::decode_table;
 use codec::table::Table;
 
 // One function for each kind of rules: the record says which, and each builds a table of its own.
@@ -21,7 +21,7 @@ impl Reading<'_> {
         requires { self.now.header.book ≡ kind.Formula }
         ensures { PartRead (SuitRules self.now.header self.now.vocabulary) rule_bytes bytes.now result }
     {
-        let nodes: Table<Node, 120> = decode_list(bytes)?;
+        let nodes: Table<Node, 120> = decode_table(bytes)?;
         let formula = FormulaTable::new(self.vocabulary, nodes.as_slice())?;
         Some(RuleTable::Formula(formula))
     }
@@ -31,7 +31,7 @@ impl Reading<'_> {
         requires { self.now.header.book ≡ kind.Chart }
         ensures { PartRead (SuitRules self.now.header self.now.vocabulary) rule_bytes bytes.now result }
     {
-        let lines: Table<Line, 120> = decode_list(bytes)?;
+        let lines: Table<Line, 120> = decode_table(bytes)?;
         let chart = Chart::new(self.vocabulary, lines.as_slice())?;
         Some(RuleTable::Chart(chart))
     }

@@ -8,7 +8,7 @@ ghost use Rattle.feeder.specs.Verdicts.{HasFirst, HasGoal, PartRead, Passed, Ste
 use crate::header::PlantKind;
 use crate::reading::Reading;
 use crate::refusal::ReadRefusal;
-use codec::list::decode_list;
+use codec::list::decode_table;
 use codec::table::Table;
 use model::fact::{Fact, Literal};
 use model::goal::Goal;
@@ -41,7 +41,7 @@ impl Reading<'_> {
     fn first_of(&self, bytes: &[u8]) -> Option<Picture>
         ensures { PartRead (SuitFirst self.now.header self.now.vocabulary) picture_bytes bytes.now result }
     {
-        let facts: Table<Fact, 512> = decode_list(bytes)?;
+        let facts: Table<Fact, 512> = decode_table(bytes)?;
         let picture = Picture::new(facts.as_slice())?;
         self.all_may_be_first(facts.as_slice()).then_some(picture)
     }
@@ -58,7 +58,7 @@ impl Reading<'_> {
     fn goal_of(&self, bytes: &[u8]) -> Option<Goal>
         ensures { PartRead (SuitGoal self.now.vocabulary) goal_bytes bytes.now result }
     {
-        let literals: Table<Literal, 64> = decode_list(bytes)?;
+        let literals: Table<Literal, 64> = decode_table(bytes)?;
         let goal = Goal::new(literals.as_slice())?;
         self.all_below(literals.as_slice()).then_some(goal)
     }

@@ -4,7 +4,7 @@ ghost use Rattle.feeder.specs.Verdicts.{HasHeader, HasWords, KindWords, PartRead
 
 use crate::header::{HEADER, Header, PlantKind};
 use crate::refusal::ReadRefusal;
-use codec::list::decode_list;
+use codec::list::decode_table;
 use codec::table::Table;
 use model::vocabulary::{Arity, Vocabulary};
 use plants::make_network::has_three_unary;
@@ -23,7 +23,7 @@ fn suits(kind: PlantKind, vocabulary: &Vocabulary) -> bool
 fn words_of(header: &Header, bytes: &[u8]) -> Option<Vocabulary>
     ensures { PartRead (SuitWords header.now) arity_bytes bytes.now result }
 {
-    let arities: Table<Arity, 16> = decode_list(bytes)?;
+    let arities: Table<Arity, 16> = decode_table(bytes)?;
     let vocabulary = Vocabulary::new(header.objects, arities.as_slice())?;
     suits(header.plant, &vocabulary).then_some(vocabulary)
 }

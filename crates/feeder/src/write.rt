@@ -146,10 +146,11 @@ fn put_record(feeder: &Feeder, writer: &mut Writer) -> Option<()>
 
 // Writes the record of a feeder into a buffer and answers its length, which is at most LONGEST.
 // Places behind the record keep what they held, and a buffer that is too short keeps all.
+// The bound is said by its number: no change of the constant changes what is promised.
 pub fn write(feeder: &Feeder, out: &mut [u8]) -> Result<usize, WriteRefusal>
     ensures answers { result ≡ answered WriteRefusal.Short (encode feeder.now) out.old }
     ensures after { out.new ≡ held (encode feeder.now) out.old }
-    ensures bound { length (encode feeder.now) ≤ LONGEST }
+    ensures bound { length (encode feeder.now) ≤ 2915 }
 {
     if record_length(feeder) > out.len() {
         return Err(WriteRefusal::Short);

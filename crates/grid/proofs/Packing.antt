@@ -1,9 +1,9 @@
 -- Numbers of few bits put side by side in one word: the word is their sum, each shifted up by those before it.
-use Rattle.std.proofs.Common.{◌≡◌, ℕ, ◌+◌, ◌-◌, ◌*◌, ◌%◌, ◌^◌, ◌<◌, ◌≤◌, false, eqb, sym, ap, ◌∙◌, ⊎_elim, arith, pow_mono}
+use Rattle.std.proofs.Common.{◌≡◌, ℕ, ◌+◌, ◌-◌, ◌*◌, ◌%◌, ◌^◌, ◌<◌, ◌≤◌, false, cond, eqb, ltb, ap, ◌∙◌, ⊎_elim, arith, pow_mono}
 use lib.Bits.{bit_or}
 use Rattle.std.proofs.lemmas.Nat.{mul-add-lt, or_comm, or_shifted, pow-add, shl_whole}
 use Rattle.std.proofs.lemmas.Nat.Bits.{bit_at_cat_high, bit_at_cat_low}
-use Rattle.std.proofs.lemmas.Bool.{cases_lt, cond_above, cond_below}
+use Rattle.std.proofs.lemmas.Bool.{cases_lt, cond-false, cond_above, cond_below, le-ltb}
 use Rattle.model.specs.Pictures.{bit}
 use Rattle.model.proofs.Bits.{bit_past}
 use Rattle.grid.specs.Shown.{side_by_side}
@@ -60,6 +60,10 @@ module _ (n a b c : ℕ) (few : n ≤ 16) (low : a < 2 ^ n) (middle : b < 2 ^ n)
       let wide : 2 ^ (2 * n + n) ≤ 2 ^ 48 = pow_mono bits in
       omega (arith, word_sum, mul-add-lt c (2 ^ (2 * n)) (b * 2 ^ n + a) (2 ^ n) high two_small, pow-add 2 (2 * n) n, wide)
 
-  -- no bit is set behind the word
-  pub side_past : (f : ℕ) → 64 ≤ f → side_by_side n a b c f ≡ false
-  side_past f h = let p : 2 ^ 64 ≤ 2 ^ f = pow_mono h in sym (word_bit f) ∙ bit_past (word_of n a b c) f (omega (arith, word_small))
+  -- no bit is set behind the three
+  pub side_past : (f : ℕ) → 3 * n ≤ f → side_by_side n a b c f ≡ false
+  side_past f h =
+      let p : 2 ^ n ≤ 2 ^ (f - (n + n)) = pow_mono (omega arith) in
+      cond-false (ltb f n) (bit a f) (cond (ltb f (n + n)) (bit b (f - n)) (bit c (f - (n + n)))) (le-ltb f n (omega arith))
+      ∙ cond-false (ltb f (n + n)) (bit b (f - n)) (bit c (f - (n + n))) (le-ltb f (n + n) (omega arith))
+      ∙ bit_past c (f - (n + n)) (omega arith)

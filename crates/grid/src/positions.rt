@@ -42,9 +42,6 @@ impl NetworkState {
     pub(crate) fn closed(&self, network: &Network) -> Sections
         ensures { (k : ℕ) → bit result.bits k ≡ is_closed network.now self.now k }
     {
-        Sections::those(
-            network,
-            |a| usize::from(a) < network.switches.len() && self.is_closed(a),
-        )
+        Sections::those(network.switches.len() as u8, |a| self.is_closed(a))
     }
 }

@@ -29,14 +29,16 @@ impl Sections {
         }
     }
 
-    // Those sections of a network that pass a test.
-    pub(crate) fn those<F: Fn(u8) -> bool>(network: &Network, test: F) -> Sections
-        requires { F.IsAlwaysCallable test }
-        ensures tested { (k : ℕ) → k < network.now.vocabulary.objects → F.post test k (bit result.bits k) }
-        ensures others { (k : ℕ) → network.now.vocabulary.objects ≤ k → bit result.bits k ≡ false }
+    // Those of the first sections, of which there are so many, that pass a test.
+    // It is told how many, since switches are counted apart from sections, and each has its own number of turns.
+    pub(crate) fn those<F: Fn(u8) -> bool>(count: u8, test: F) -> Sections
+        requires few { count ≤ 16 }
+        requires callable { F.IsAlwaysCallable test }
+        ensures tested { (k : ℕ) → k < count → F.post test k (bit result.bits k) }
+        ensures others { (k : ℕ) → count ≤ k → bit result.bits k ≡ false }
     {
         let mut bits = 0;
-        for section in 0..network.vocabulary.objects {
+        for section in 0..count {
             if test(section) {
                 bits |= bit_of(section);
             }

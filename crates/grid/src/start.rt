@@ -33,10 +33,10 @@ impl NetworkPlant {
     fn first_earths(&self) -> Sections
         ensures { result ≡ sections_of (has_first_earth self.now.network self.now.first) }
     {
-        let sections = u16::from(self.network.vocabulary.objects);
-        Sections::those(&self.network, |x| {
+        let sections = self.network.vocabulary.objects;
+        Sections::those(sections, |x| {
             self.first.holds(Fact {
-                number: sections + u16::from(x),
+                number: u16::from(sections) + u16::from(x),
             })
         })
     }

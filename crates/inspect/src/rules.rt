@@ -12,6 +12,7 @@ use books::line::{BROKEN, Line};
 use books::node::Node;
 use feeder::tables::RuleTable;
 use std::fmt;
+use std::fmt::Display;
 
 impl fmt::Display for InWords<'_, RuleTable> {
     ghost output = { λ x. rules_text x.words.now x.of.now };
@@ -28,7 +29,7 @@ impl fmt::Display for InWords<'_, RuleTable> {
                 let lines = Amount(chart.lines.len(), "line");
                 writeln!(f, "rules: a chart of {lines}")?;
                 for line in chart.lines.as_slice() {
-                    write!(f, "{}", self.words.say(line))?;
+                    self.words.say(line).fmt(f)?;
                 }
                 Ok(())
             }
@@ -62,9 +63,13 @@ fn write_leaf<W: fmt::Write>(f: &mut fmt::Formatter<W>, words: &Words, node: Nod
     ensures { WritesOnOk W.write_str_gives f.old result (leaf_text words.now node) f.new }
 {
     match node {
-        Node::Atom(atom) => write!(f, "{}", words.say(&atom)),
+        Node::Atom(atom) => words.say(&atom).fmt(f),
         Node::Goal(atom) => write!(f, "GOAL({})", words.say(&atom)),
-        Node::Same(s, t) => write!(f, "{} = {}", words.say(&s), words.say(&t)),
+        Node::Same(s, t) => {
+            words.say(&s).fmt(f)?;
+            f.write_str(" = ")?;
+            words.say(&t).fmt(f)
+        }
         _ => f.write_str(word(node)),
     }
 }
@@ -118,7 +123,8 @@ impl fmt::Display for InWords<'_, Line> {
     fn fmt<W: fmt::Write>(&self, f: &mut fmt::Formatter<W>) -> fmt::Result {
         let Line { from, literal, to } = *self.of;
         let broken = if to == BROKEN { " (broken)" } else { "" };
-        let literal = self.words.say(&literal);
-        writeln!(f, "  from step {from} to step {to}{broken} where {literal}")
+        write!(f, "  from step {from} to step {to}{broken} where ")?;
+        self.words.say(&literal).fmt(f)?;
+        f.write_str("\n")
     }
 }

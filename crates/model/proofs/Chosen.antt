@@ -1,5 +1,5 @@
 -- The numbers below a bound that pass a test: they ascend, and they say which numbers pass.
-use Rattle.std.proofs.Common.{◌≡◌, ℕ, zero, suc, ◌<◌, ◌≤◌, Bool, true, false, ◌||◌, eqb, List, [], ◌∷◌, ◌++◌, length, sym, refl, ap, ◌∙◌, subst, ⊎_elim, arith}
+use Rattle.std.proofs.Common.{◌≡◌, ℕ, zero, suc, ◌+◌, ◌<◌, ◌≤◌, Bool, true, false, ◌||◌, eqb, List, [], ◌∷◌, ◌++◌, length, sym, refl, ap, ◌∙◌, subst, ⊎_elim, arith}
 use Rattle.std.proofs.lemmas.List.{append-nil, length_push, same_from_push}
 use Rattle.std.proofs.lemmas.Bool.{cases_Bool, cases_eq, cond-false, cond-true, eq-eqb, ne_eqb, or_from, or_left}
 use Rattle.model.specs.Ascents.{AllBelow, Ascending}
@@ -14,6 +14,15 @@ chosen_taken n test e = ap (λ (t : List ℕ). chosen n test ++ t) (cond-true (t
 pub chosen_left : (n : ℕ) (test : ℕ → Bool) → test n ≡ false → chosen (suc n) test ≡ chosen n test
 unfolding chosen
 chosen_left n test e = ap (λ (t : List ℕ). chosen n test ++ t) (cond-false (test n) (n ∷ []) [] e) ∙ append-nil (chosen n test)
+
+-- numbers that do not pass change nothing
+pub chosen_skip : (n k : ℕ) (test : ℕ → Bool) → ((j : ℕ) → n ≤ j → j < n + k → test j ≡ false) → chosen (n + k) test ≡ chosen n test
+chosen_skip n zero test e = ap (λ (m : ℕ). chosen m test) (omega arith)
+chosen_skip n (suc k) test e =
+    let m : n + suc k ≡ suc (n + k) = omega arith in
+    ap (λ (x : ℕ). chosen x test) m
+    ∙ chosen_left (n + k) test (e (n + k) (omega arith) (omega arith))
+    ∙ chosen_skip n k test (λ j l h. e j l (omega arith))
 
 pub chosen_few : (n : ℕ) (test : ℕ → Bool) → length (chosen n test) ≤ n
 unfolding chosen

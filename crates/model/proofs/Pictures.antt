@@ -10,7 +10,7 @@ use Rattle.model.specs.contracts.picture.Picture.{struct, the_propositions}
 use Rattle.model.specs.declared.picture.Picture.{Picture}
 use Rattle.model.specs.Ascents.{SoundFacts}
 use Rattle.model.specs.Pictures.{BitPlace, bit, holds, members}
-use Rattle.model.proofs.Bits.{bit_cleared, bit_common, bit_joined, bit_none, same_bits}
+use Rattle.model.proofs.Bits.{bit_cleared, bit_common, bit_joined, bit_none, bit_set, same_bits}
 use Rattle.model.proofs.Chosen.{chosen_few, chosen_known, chosen_none, chosen_push, chosen_sound}
 
 pub members_sound : (p : Picture) → SoundFacts (members p)
@@ -105,16 +105,33 @@ place_bit words f (Some (word, mask)) b p m l =
     ∙ ap (λ (x : ℕ). not (eqb (bit_and (get_or words (f / 64) 0) x) 0)) p.1.1
     ∙ bit_common (get_or words (f / 64) 0) (f % 64)
 
--- the words in which the bit of one fact more is set
-pub with_fact : (words : List ℕ) (f word mask : ℕ) → BitPlace f (Some (word, mask)) → length words ≡ 8 → (g : ℕ)
-    → bit (get_or (set words word (bit_or (get_or words word 0) mask)) (g / 64) 0) (g % 64) ≡ (eqb g f || bit (get_or words (g / 64) 0) (g % 64))
-with_fact words f word mask p l g =
-    rw (p.1.0, p.1.1)
-    (changed_bit ◌||◌ (λ b. refl) words f _ (omega (arith, p.0)) (λ j h. bit_joined (get_or words (f / 64) 0) (f % 64) j) g)
+-- the words in which the bit of one fact more is set, by its number alone, and for any number of words; kept, though no
+-- proof cites it, since it is named in docs/PORT.md
+abbrev pub with_fact : List ℕ → ℕ → List ℕ
+with_fact words f = set words (f / 64) (bit_or (get_or words (f / 64) 0) (1 * 2 ^ (f % 64) % 2 ^ 64))
 
-pub with_fact_small : (words : List ℕ) (f word mask : ℕ) → BitPlace f (Some (word, mask)) → length words ≡ 8
+pub with_fact_bit : (words : List ℕ) (f : ℕ) → f / 64 < length words → (g : ℕ)
+    → bit (get_or (with_fact words f) (g / 64) 0) (g % 64) ≡ (eqb g f || bit (get_or words (g / 64) 0) (g % 64))
+with_fact_bit words f h =
+    changed_bit ◌||◌ (λ b. refl) words f _ h (λ j l. bit_joined 64 (get_or words (f / 64) 0) (f % 64) j (mod_below f 64 (omega arith)))
+
+pub with_fact_small : (words : List ℕ) (f : ℕ) → f / 64 < length words → ((i : ℕ) → get_or words i 0 < 2 ^ 64)
+    → (i : ℕ) → get_or (with_fact words f) i 0 < 2 ^ 64
+with_fact_small words f h s =
+    let old = get_or words (f / 64) 0 in
+    let power : 1 * 2 ^ (f % 64) % 2 ^ 64 < 2 ^ 64 = mod_below (1 * 2 ^ (f % 64)) (2 ^ 64) (omega arith) in
+    changed_small words (f / 64) _ h s (or_lt 64 old (1 * 2 ^ (f % 64) % 2 ^ 64) (s (f / 64)) power)
+
+-- the words in which the bit of one fact more is set, as the code sets it
+pub fact_set : (words : List ℕ) (f word mask : ℕ) → BitPlace f (Some (word, mask)) → length words ≡ 8 → (g : ℕ)
+    → bit (get_or (set words word (bit_or (get_or words word 0) mask)) (g / 64) 0) (g % 64) ≡ (eqb g f || bit (get_or words (g / 64) 0) (g % 64))
+fact_set words f word mask p l g =
+    rw (p.1.0, p.1.1)
+    (changed_bit ◌||◌ (λ b. refl) words f _ (omega (arith, p.0)) (λ j h. bit_set (get_or words (f / 64) 0) (f % 64) j) g)
+
+pub fact_set_small : (words : List ℕ) (f word mask : ℕ) → BitPlace f (Some (word, mask)) → length words ≡ 8
     → ((i : ℕ) → get_or words i 0 < 2 ^ 64) → (i : ℕ) → get_or (set words word (bit_or (get_or words word 0) mask)) i 0 < 2 ^ 64
-with_fact_small words f word mask p l s =
+fact_set_small words f word mask p l s =
     let low = pow_below (f % 64) 64 (mod_below f 64 (omega arith)) in
     changed_small words word _ (omega (arith, p.0, p.1.0)) s (or_lt 64 (get_or words word 0) mask (s word) (omega (arith, p.1.1)))
 

@@ -41,7 +41,7 @@ impl Coded<1> for Sign {
 
     ghost one = { Prim.search rules };
 
-    fn decode(bytes: &[u8; 1]) -> Option<Sign> {
+    fn from_array(bytes: &[u8; 1]) -> Option<Sign> {
         match *bytes {
             [0] => Some(Sign::Negative),
             [1] => Some(Sign::Positive),
@@ -74,7 +74,7 @@ impl Coded<2> for Fact {
 
     ghost one = { Prim.search rules };
 
-    fn decode(bytes: &[u8; 2]) -> Option<Fact> {
+    fn from_array(bytes: &[u8; 2]) -> Option<Fact> {
         Some(Fact {
             number: u16::from_be_bytes(*bytes),
         })
@@ -102,11 +102,11 @@ impl Coded<3> for Literal {
 
     ghost one = { Prim.search rules };
 
-    fn decode(bytes: &[u8; 3]) -> Option<Literal> {
+    fn from_array(bytes: &[u8; 3]) -> Option<Literal> {
         let [sign, high, low] = *bytes;
         Some(Literal {
-            sign: Sign::decode(&[sign])?,
-            fact: Fact::decode(&[high, low])?,
+            sign: Sign::from_array(&[sign])?,
+            fact: Fact::from_array(&[high, low])?,
         })
     }
 

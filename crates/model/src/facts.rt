@@ -1,6 +1,6 @@
-ghost use Rattle.std.specs.Prelude.{◌≡◌, ℕ, false, length};
+ghost use Rattle.std.specs.Prelude.{◌≡◌, ℕ, ◌+◌, ◌*◌, ◌<◌, false, length};
 ghost use Rattle.model.specs.Ascents.{fact_numbers};
-ghost use Rattle.model.specs.Pictures.{BitPlace, Inserted, PictureMade, Removed, holds, members};
+ghost use Rattle.model.specs.Pictures.{BitPlace, Inserted, PictureMade, Removed, chosen, holds, members};
 
 use crate::fact::Fact;
 use crate::picture::Picture;
@@ -19,6 +19,10 @@ impl Picture {
     pub fn new(facts: &[Fact]) -> Option<Picture>
         ensures { PictureMade facts.now result }
     {
+        // there are not more ascending facts than that, so a longer list is not gone through
+        if facts.len() > 512 {
+            return None;
+        }
         if !facts.is_sorted_by(|a, b| a < b) {
             return None;
         }
@@ -61,14 +65,32 @@ impl Picture {
         ensures long { length result ≡ length (members self.now) }
     {
         let mut facts = Table::empty();
-        for number in 0..512 {
-            let fact = Fact { number };
-            if self.holds(fact) {
-                // there is a place for every fact
-                let _ = facts.push(fact);
+        // by number: word w has the facts from 64 * w on, and one without facts is passed at once
+        for w in 0..8u16 {
+            if self.words[usize::from(w)] != 0 {
+                self.list_word(w, &mut facts);
             }
         }
         facts
+    }
+
+    // Lists the facts of word w behind those of the words before it.
+    #[inline(always)]
+    fn list_word(&self, w: u16, facts: &mut Table<Fact, 512>)
+        requires word { w < 8 }
+        requires before { fact_numbers facts.old ≡ chosen (64 * w) (holds self.now) }
+        ensures { fact_numbers facts.new ≡ chosen (64 * w + 64) (holds self.now) }
+    {
+        let word = self.words[usize::from(w)];
+        // by number: a fact is known by its place in the word
+        for bit in 0..64 {
+            if (word >> bit) & 1 == 1 {
+                // there is a place for every fact
+                let _ = facts.push(Fact {
+                    number: 64 * w + bit,
+                });
+            }
+        }
     }
 }
 

@@ -43,7 +43,7 @@ impl Coded<1> for Term {
 
     ghost one = { Prim.search rules };
 
-    fn decode(bytes: &[u8; 1]) -> Option<Term> {
+    fn from_array(bytes: &[u8; 1]) -> Option<Term> {
         match *bytes {
             [o @ 0..=15] => Some(Term::Object(o)),
             [v @ 16..=19] => Some(Term::Variable(v - 16)),
@@ -70,12 +70,12 @@ impl Coded<3> for Atom {
 
     ghost one = { Prim.search rules };
 
-    fn decode(bytes: &[u8; 3]) -> Option<Atom> {
+    fn from_array(bytes: &[u8; 3]) -> Option<Atom> {
         let [predicate, first, second] = *bytes;
         Some(Atom {
             predicate,
-            first: Term::decode(&[first])?,
-            second: Term::decode(&[second])?,
+            first: Term::from_array(&[first])?,
+            second: Term::from_array(&[second])?,
         })
     }
 

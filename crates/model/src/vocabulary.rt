@@ -33,7 +33,7 @@ impl Coded<1> for Arity {
 
     ghost one = { Prim.search rules };
 
-    fn decode(bytes: &[u8; 1]) -> Option<Arity> {
+    fn from_array(bytes: &[u8; 1]) -> Option<Arity> {
         match *bytes {
             [0] => Some(Arity::Zero),
             [1] => Some(Arity::One),

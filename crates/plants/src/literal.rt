@@ -31,11 +31,11 @@ impl Coded<4> for LiftedLiteral {
 
     ghost one = { Prim.search rules };
 
-    fn decode(bytes: &[u8; 4]) -> Option<LiftedLiteral> {
+    fn from_array(bytes: &[u8; 4]) -> Option<LiftedLiteral> {
         let [sign, predicate, first, second] = *bytes;
         Some(LiftedLiteral {
-            sign: Sign::decode(&[sign])?,
-            atom: Atom::decode(&[predicate, first, second])?,
+            sign: Sign::from_array(&[sign])?,
+            atom: Atom::from_array(&[predicate, first, second])?,
         })
     }
 

@@ -2,7 +2,7 @@ ghost use Rattle.std.specs.Prelude.{◌≡◌};
 ghost use Rattle.std.specs.List.{list_all};
 ghost use Rattle.plants.specs.Actions.{ActionsMade};
 ghost use Rattle.plants.specs.Lifted.{lifted_fits};
-ghost use Rattle.plants.specs.Operators.{OperatorMade, blank_operator, operator_fits, operator_head};
+ghost use Rattle.plants.specs.Operators.{OperatorMade, OperatorOf, blank_operator, operator_fits, operator_head};
 ghost use Rattle.std.proofs.Common.{rules};
 
 use crate::actions::ActionTable;
@@ -33,14 +33,23 @@ impl Blank for Operator {
 }
 
 impl Operator {
+    // An operator with these literals: first its preconditions, of which there are so many, and the effects behind them.
+    // None where there are more than 2 parameters, 8 preconditions or 8 effects, or fewer literals than preconditions.
+    pub fn new(parameters: u8, preconditions: u8, literals: &[LiftedLiteral]) -> Option<Operator>
+        ensures { OperatorMade parameters preconditions literals.now result }
+    {
+        let (needs, effects) = literals.split_at_checked(preconditions as usize)?;
+        Operator::of(parameters, needs, effects)
+    }
+
     // An operator with these preconditions and effects.
     // None where there are more than 2 parameters, 8 preconditions or 8 effects.
-    pub fn new(
+    pub fn of(
         parameters: u8,
         needs: &[LiftedLiteral],
         effects: &[LiftedLiteral],
     ) -> Option<Operator>
-        ensures { OperatorMade parameters needs.now effects.now result }
+        ensures { OperatorOf parameters needs.now effects.now result }
     {
         if parameters > 2 {
             return None;

@@ -33,7 +33,7 @@ impl Coded<2> for Switch {
 
     ghost one = { Prim.search rules };
 
-    fn decode(bytes: &[u8; 2]) -> Option<Switch> {
+    fn from_array(bytes: &[u8; 2]) -> Option<Switch> {
         let [from, to] = *bytes;
         Some(Switch { from, to })
     }

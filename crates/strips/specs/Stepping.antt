@@ -1,7 +1,7 @@
 -- The state after a move, fact by fact: each effect is on one of the 512 facts, and the picture drawn says what becomes of it.
-use Rattle.std.specs.Prelude.{◌≡◌, ℕ, ◌<◌, Bool, true, false, length, Decides, refl}
+use Rattle.std.specs.Prelude.{◌≡◌, ℕ, ◌<◌, ◌≤◌, Bool, true, false, ◌&&◌, length, Decides, nat_lt, refl}
 use Rattle.std.proofs.Common.{⊎_elim, ◌∙◌, arith, subst}
-use Rattle.std.proofs.Math.Path.{sym}
+use Rattle.std.proofs.Math.Path.{sym, ap}
 use Rattle.model.specs.declared.fact.Sign.TheVariants.{Negative, Positive}
 use Rattle.model.specs.declared.picture.Picture.{Picture}
 use Rattle.model.specs.Pictures.{holds}
@@ -9,7 +9,7 @@ use Rattle.model.proofs.Drawn.{drawn, holds_picture_of}
 use Rattle.model.proofs.Pictures.{holds_past}
 use Rattle.plants.specs.declared.actions.ActionTable.{ActionTable}
 use Rattle.std.proofs.lemmas.Bool.Decides.{nat_tests}
-use Rattle.std.proofs.lemmas.Bool.{false_from_ne_true, cases_lt}
+use Rattle.std.proofs.lemmas.Bool.{and_left, false_from_ne_true, cases_lt, le-ltb, lt-ltb}
 use Rattle.std.proofs.lemmas.Bool.Decides.{Decides-at}
 use Rattle.strips.specs.Grounding.{operator_number}
 use Rattle.strips.specs.Laws.{Applicable, Stepped}
@@ -25,6 +25,13 @@ module _ (t : ActionTable) (s : Picture) (m : ℕ) where
   -- the parts of an allowed move
   pub allowed_parts : action_allowed t s m ≡ true → (operator_number m < length t.operators) × (takes_both t m ≡ true) × (needs_hold t s m ≡ true)
   allowed_parts e = (grind (arith, nat_tests), grind arith, grind arith)
+
+  -- a move of an operator that there is not, and of one that there is
+  pub allowed_beyond : length t.operators ≤ operator_number m → action_allowed t s m ≡ false
+  allowed_beyond h = and_left (nat_lt (operator_number m) (length t.operators)) _ (le-ltb (operator_number m) (length t.operators) h)
+
+  pub allowed_within : operator_number m < length t.operators → action_allowed t s m ≡ (takes_both t m && needs_hold t s m)
+  allowed_within h = ap (λ (b : Bool). b && (takes_both t m && needs_hold t s m)) (lt-ltb (operator_number m) (length t.operators) h)
 
   -- an answer that is that test decides what it stands for
   pub answered : (r : Bool) → r ≡ action_allowed t s m → Decides r (Applicable t s m)
@@ -47,7 +54,7 @@ module _ (t : ActionTable) (s : Picture) (m : ℕ) where
       let e = holds_next ((decides_allowed t m s).1 a) f h in
       cc
 
-  next_law : Stepped t s m (action_next t s m)
+  pub next_law : Stepped t s m (action_next t s m)
   next_law =
       let yes = λ (a : Applicable t s m). allowed_parts ((decides_allowed t m s).1 a) in
       record {

@@ -31,6 +31,8 @@ pub(crate) enum NoMove {
 
 impl<'a> Move<'a> {
     // The move that has a number.
+    // Always inline: the search for the next allowed move makes one for each number that it tries.
+    #[inline(always)]
     pub(crate) fn new(table: &'a ActionTable, number: u16) -> Result<Move<'a>, NoMove>
         ensures { MatchResult result (λ m. (m.table.now ≡ table.now) × (m.number ≡ number)) (Lacks table.now number) }
     {

@@ -7,7 +7,7 @@ use Rattle.codec.specs.Codes.{Decoded}
 use Rattle.plants.specs.declared.literal.LiftedLiteral.{LiftedLiteral}
 use Rattle.plants.specs.declared.operator.Operator.{Operator}
 use Rattle.plants.specs.Lifted.{lifted_bytes, lifted_proper}
-use Rattle.plants.specs.Operators.{OperatorMade, operator_bytes}
+use Rattle.plants.specs.Operators.{OperatorOf, operator_bytes}
 use Rattle.feeder.specs.Operators.{operator_holds}
 use Rattle.feeder.proofs.Shapes.{held_parts, joined_parts, literals_known, parts}
 use Rattle.feeder.proofs.operators.operator_of.Goals as goal
@@ -46,7 +46,7 @@ record Read (bytes : List ℕ) (n : ℕ) (xs ys : List LiftedLiteral) : Type 0 w
   needs_held : list_all lifted_proper xs ≡ true
   effects_held : list_all lifted_proper ys ≡ true
 
-made : (bytes : List ℕ) (n : ℕ) (xs ys : List LiftedLiteral) (r : Option Operator) → Read bytes n xs ys → OperatorMade n xs ys r
+made : (bytes : List ℕ) (n : ℕ) (xs ys : List LiftedLiteral) (r : Option Operator) → Read bytes n xs ys → OperatorOf n xs ys r
     → Decoded operator_bytes operator_holds bytes r
 made bytes n xs ys (Some op) d m = (
   joined_parts op bytes d.long (m.0 ∙ d.parameters) d.rest d.room (ap (flat_map lifted_bytes) m.1 ∙ d.needs) (ap (flat_map lifted_bytes) m.2 ∙ d.effects),
@@ -113,7 +113,7 @@ returns c =
     let u = cut bytes c.in_ok-head.head.now c.in_ok-head.literals.now c.in_ok-front.front.now c.in_ok-front.back.now head.0 head.1 two.1 two.2 in
     let read = c.in_ok-needs.ensures in
     let read2 = c.in_ok-effects.ensures in
-    made bytes _ _ _ c.new.result
+    made bytes _ _ _ c.of.result
     (record {
       long = omega (arith, head.2);
       parameters = u.parameters;
@@ -124,4 +124,4 @@ returns c =
       needs_held = ap (list_all lifted_proper) c.as_slice.ensures.same ∙ read.1;
       effects_held = ap (list_all lifted_proper) c.as_slice-2.ensures.same ∙ read2.1;
     })
-    c.new.ensures
+    c.of.ensures

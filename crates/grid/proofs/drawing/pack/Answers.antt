@@ -64,6 +64,6 @@ returns c =
     (λ p.
     ap (λ (w : ℕ). bit w (f % 64)) (rest word (f / 64) (omega arith))
     ∙ bit_none (f % 64)
-    ∙ sym (side_past n x y z v.high l.0 l.1 l.2 f p)
+    ∙ sym (side_past n x y z v.high l.0 l.1 l.2 f (omega (arith, v.high, p)))
     ∙ same)
     (cases_lt f 64)

@@ -38,7 +38,7 @@ loop-section-preserved g c =
     let old = c.loop-section.bits in
     let n = c.loop-section.section in
     let inv = c.loop-section.invariant in
-    let few : n < 16 = omega (arith, c.args.network.now.vocabulary.high) in
+    let few : n < 16 = omega (arith, c.requires.few) in
     let each : (k : ℕ) → bit c.if-test.bits k ≡ cond (eqb k n) c.test.result (bit old k) =
     elim c.if-test.branch [
       | then-test w ↦ λ k.

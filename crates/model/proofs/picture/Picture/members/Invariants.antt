@@ -1,8 +1,8 @@
--- The facts listed so far are the members among the numbers tried.
-use Rattle.std.proofs.Common.{◌≡◌, ◌≤◌, length}
+-- The facts listed so far are those of the words passed.
+use Rattle.std.proofs.Common.{◌≡◌, ◌*◌}
 use Rattle.model.specs.Ascents.{fact_numbers}
 use Rattle.model.specs.Pictures.{chosen, holds}
 use Rattle.model.proofs.picture.Picture.members.Given as goal
 
-abbrev pub invariant-loop-number : goal.invariant-loop-number
-invariant-loop-number l = (fact_numbers l.facts ≡ chosen l.number (holds l.self)) × (length l.facts ≤ l.number)
+abbrev pub invariant-loop-w : goal.invariant-loop-w
+invariant-loop-w l = fact_numbers l.facts ≡ chosen (64 * l.w) (holds l.self)

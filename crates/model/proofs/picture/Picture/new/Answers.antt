@@ -1,4 +1,4 @@
-use Rattle.std.proofs.Common.{rules, ◌≡◌, ℕ, ◌<◌, ◌≤◌, false, ltb, eqb, List, [], ◌∷◌, ◌++◌, get_or, sym, refl, ap, ◌∙◌, arith}
+use Rattle.std.proofs.Common.{rules, ◌≡◌, ℕ, ◌<◌, ◌≤◌, zero, suc, false, ltb, eqb, List, [], ◌∷◌, ◌++◌, length, get_or, sym, refl, ap, ◌∙◌, add-one, arith}
 use Rattle.std.proofs.lemmas.Fn.{always_returns_same}
 use Rattle.std.proofs.lemmas.List.{length-map, map_more, take_all}
 use Rattle.std.proofs.lemmas.Bool.{ne_eqb, or_from}
@@ -8,6 +8,18 @@ use Rattle.model.specs.Pictures.{holds}
 use Rattle.model.proofs.Ascents.{ascent_decided, number_at}
 use Rattle.model.proofs.Pictures.{members_none, members_push}
 use Rattle.model.proofs.picture.Picture.new.Goals as goal
+
+-- an ascending list has at least i in its place i
+place_up : (xs : List ℕ) → Ascending xs → (i : ℕ) → i < length xs → i ≤ get_or xs i 0
+place_up xs rises zero h = omega arith
+place_up xs rises (suc i) h = omega (arith, place_up xs rises i (omega arith), rises i (omega arith), ap (λ (m : ℕ). get_or xs m 0) (add-one i))
+
+-- so one of more than 512 has one that is not below 512
+pub returns-then-facts-gt512 : goal.returns-then-facts-gt512
+returns-then-facts-gt512 c =
+    let facts = c.args.facts.now in
+    let n = length-map facts (λ (f : Fact). f.number) in
+    λ s. omega (arith, place_up (fact_numbers facts) s.rises 512 (omega (arith, n)), s.below 512 (omega (arith, n)))
 
 pub returns-then-not-is_sorted_by : goal.returns-then-not-is_sorted_by
 returns-then-not-is_sorted_by c =
