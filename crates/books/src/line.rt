@@ -3,7 +3,7 @@ ghost use Rattle.books.specs.Lines.{blank_line, line_bytes, line_fits};
 ghost use Rattle.std.proofs.Common.{rules};
 
 use codec::blank::Blank;
-use codec::coded::Coded;
+use codec::coded::{Coded, Compact};
 use model::fact::Literal;
 
 // The number of the broken step, where the rules are broken. A line may lead to it, but none leaves it.
@@ -59,4 +59,8 @@ impl Coded<5> for Line {
         let [sign, high, low]: [u8; 3] = self.literal.encode();
         [self.from, sign, high, low, self.to]
     }
+}
+
+impl Compact<5> for Line {
+    ghost small = { Prim.search rules };
 }

@@ -5,7 +5,7 @@ ghost use Rattle.books.specs.Nodes.{node_bytes, node_proper, parts};
 ghost use Rattle.std.proofs.Common.{rules};
 
 use codec::blank::Blank;
-use codec::coded::Coded;
+use codec::coded::{Coded, Compact};
 use model::term::{Atom, Term};
 
 // What a quantifier has: the atom that its variable ranges over, the body, and the variable.
@@ -125,4 +125,8 @@ impl Coded<4> for Node {
             Node::Exists(q) => [13, q.range, q.body, q.variable],
         }
     }
+}
+
+impl Compact<4> for Node {
+    ghost small = { Prim.search rules };
 }

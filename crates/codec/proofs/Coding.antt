@@ -1,6 +1,7 @@
 -- Lists of values of one width: their joined codes can be cut only between values.
 use Rattle.std.proofs.Common.{◌≡◌, ℕ, zero, suc, ◌+◌, ◌*◌, ◌<◌, ◌≤◌, Bool, true, List, [], ◌∷◌, ◌++◌, length, get_or, take, drop, sym, refl, ap, ◌∙◌, mul-suc, arith}
 use native.Mathlib.Nat.{eq_of_mul-eq-mul_left}
+use Rattle.std.proofs.Math.Nat.{lt_of_mul-lt-mul_left}
 use Rattle.std.specs.List.{flat_map}
 use Rattle.std.proofs.lemmas.List.{append_assoc, append-nil, drop_all, drop_at, drop_more, length-append, take_at, take_more}
 use Rattle.std.proofs.lemmas.Bool.{and_from, and_parts}
@@ -60,6 +61,16 @@ module _ {A : Type 0} (code : A → List ℕ) (proper : A → Bool) (size : ℕ)
   next_value (d ∷ done) (x ∷ xs) rest e h q =
       next_value done xs rest (and_parts (proper x) (list_all proper xs) e).1 (omega arith)
       (same_back (code d) (code x) _ _ (fixed d ∙ sym (fixed x)) (sym (append_assoc (code d) (flat_map code done) rest) ∙ q))
+
+  -- The same where it is known of the rest alone that it has bytes: then there are more values. No proof here cites it: it is
+  -- for those who read until no bytes are left, without knowing how many values there are.
+  pub value_left : (done xs : List A) (rest : List ℕ) → 0 < length rest → list_all proper xs ≡ true → flat_map code done ++ rest ≡ flat_map code xs
+      → (length done < length xs) × ((x : A) × (ys : List A) × (proper x ≡ true) × (rest ≡ code x ++ flat_map code ys))
+  value_left done xs rest h e q =
+      let long : length done < length xs =
+      lt_of_mul-lt-mul_left size (omega (arith, h, ap length q, length-append (flat_map code done) rest, length_joined done, length_joined xs))
+      in
+      (long, next_value done xs rest e long q)
 
   -- Two lists of as many values with the same codes are the same, where a value is known by its code.
   pub same_joined : ((x y : A) → proper x ≡ true → proper y ≡ true → code x ≡ code y → x ≡ y)

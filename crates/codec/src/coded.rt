@@ -1,4 +1,4 @@
-ghost use Rattle.std.specs.Prelude.{◌≡◌, ◌<◌, ◌^◌, ℕ, Bool, true, List, length};
+ghost use Rattle.std.specs.Prelude.{◌≡◌, ◌<◌, ◌≤◌, ◌^◌, ℕ, Bool, true, List, length};
 ghost use Rattle.codec.specs.Codes.{Decoded};
 
 // A kind of value that a record holds in a fixed number of bytes.
@@ -36,4 +36,10 @@ pub trait Coded<const WIDTH: usize>: Copy {
 
     // a value that a record can hold is known by its bytes
     ghost one: { (x y : Self) → proper x ≡ true → proper y ≡ true → code x ≡ code y → x ≡ y };
+}
+
+// A kind of value of at most 16 bytes, as each kind in this repository is. What is written for all such kinds may count on it.
+pub trait Compact<const WIDTH: usize>: Coded<WIDTH> {
+    // WIDTH is at most 16. The premise, which `fixed` gives, stands there since only what names something of a kind is a law.
+    ghost small: { ((x : Self) → length (Self.code x) ≡ WIDTH) → WIDTH ≤ 16 };
 }

@@ -2,7 +2,7 @@ ghost use Rattle.std.specs.Prelude.{◌≡◌, true, [], ◌∷◌};
 ghost use Rattle.feeder.specs.Headers.{book_byte, book_fits, counts_fit, header_bytes, plant_byte, plant_fits, within_limits};
 ghost use Rattle.std.proofs.Common.{rules};
 
-use codec::coded::Coded;
+use codec::coded::{Coded, Compact};
 
 // The version of the record format, which is the first byte of a record.
 pub(crate) const VERSION: u8 = 1;
@@ -53,6 +53,10 @@ impl Coded<1> for PlantKind {
     }
 }
 
+impl Compact<1> for PlantKind {
+    ghost small = { Prim.search rules };
+}
+
 impl Coded<1> for BookKind {
     ghost code = { λ k. book_byte k ∷ [] };
 
@@ -78,6 +82,10 @@ impl Coded<1> for BookKind {
             BookKind::Chart => [2],
         }
     }
+}
+
+impl Compact<1> for BookKind {
+    ghost small = { Prim.search rules };
 }
 
 // The first eleven bytes of a record: kinds, counts and the limit.
@@ -197,4 +205,8 @@ impl Coded<HEADER> for Header {
             low,
         ]
     }
+}
+
+impl Compact<HEADER> for Header {
+    ghost small = { Prim.search rules };
 }

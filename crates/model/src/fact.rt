@@ -5,7 +5,7 @@ ghost use Rattle.model.specs.Literals.{fact_bytes, literal_bytes, sign_byte};
 ghost use Rattle.std.proofs.Common.{rules};
 
 use codec::blank::Blank;
-use codec::coded::Coded;
+use codec::coded::{Coded, Compact};
 
 // Whether something is wanted true or false.
 #[derive(Debug, Clone, Copy, Default, PartialEq, Eq)]
@@ -57,6 +57,10 @@ impl Coded<1> for Sign {
     }
 }
 
+impl Compact<1> for Sign {
+    ghost small = { Prim.search rules };
+}
+
 impl Blank for Fact {
     ghost blank = { blank_fact };
 
@@ -83,6 +87,10 @@ impl Coded<2> for Fact {
     fn encode(&self) -> [u8; 2] {
         self.number.to_be_bytes()
     }
+}
+
+impl Compact<2> for Fact {
+    ghost small = { Prim.search rules };
 }
 
 impl Blank for Literal {
@@ -115,4 +123,8 @@ impl Coded<3> for Literal {
         let [high, low]: [u8; 2] = self.fact.encode();
         [sign, high, low]
     }
+}
+
+impl Compact<3> for Literal {
+    ghost small = { Prim.search rules };
 }

@@ -3,7 +3,7 @@ ghost use Rattle.model.specs.declared.term.Term.TheVariants.{Object};
 ghost use Rattle.model.specs.Atoms.{atom_bytes, atom_proper, term_byte, term_proper};
 ghost use Rattle.std.proofs.Common.{rules};
 
-use codec::coded::Coded;
+use codec::coded::{Coded, Compact};
 
 // What an atom speaks of: an object by its number, or a variable by its number.
 // A variable stands for an operator's parameter or for what a quantifier binds.
@@ -59,6 +59,10 @@ impl Coded<1> for Term {
     }
 }
 
+impl Compact<1> for Term {
+    ghost small = { Prim.search rules };
+}
+
 impl Coded<3> for Atom {
     ghost code = { atom_bytes };
 
@@ -84,4 +88,8 @@ impl Coded<3> for Atom {
         let [second]: [u8; 1] = self.second.encode();
         [self.predicate, first, second]
     }
+}
+
+impl Compact<3> for Atom {
+    ghost small = { Prim.search rules };
 }

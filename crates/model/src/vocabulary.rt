@@ -4,7 +4,7 @@ ghost use Rattle.model.specs.Facts.{arity_byte, facts};
 ghost use Rattle.std.proofs.Common.{rules};
 
 use codec::blank::Blank;
-use codec::coded::Coded;
+use codec::coded::{Coded, Compact};
 use codec::table::Table;
 
 // How many objects a predicate takes.
@@ -49,6 +49,10 @@ impl Coded<1> for Arity {
             Arity::Two => [2],
         }
     }
+}
+
+impl Compact<1> for Arity {
+    ghost small = { Prim.search rules };
 }
 
 // The objects and predicates of a feeder. Objects are 0 to objects - 1; a predicate is known by its place among the arities.

@@ -2,7 +2,7 @@ ghost use Rattle.plants.specs.Lifted.{blank_lifted, lifted_bytes, lifted_proper}
 ghost use Rattle.std.proofs.Common.{rules};
 
 use codec::blank::Blank;
-use codec::coded::Coded;
+use codec::coded::{Coded, Compact};
 use model::fact::Sign;
 use model::term::Atom;
 
@@ -44,4 +44,8 @@ impl Coded<4> for LiftedLiteral {
         let [predicate, first, second]: [u8; 3] = self.atom.encode();
         [sign, predicate, first, second]
     }
+}
+
+impl Compact<4> for LiftedLiteral {
+    ghost small = { Prim.search rules };
 }

@@ -5,7 +5,7 @@ ghost use Rattle.plants.specs.Switches.{blank_switch, network_arities, switch_by
 ghost use Rattle.std.proofs.Common.{rules};
 
 use codec::blank::Blank;
-use codec::coded::Coded;
+use codec::coded::{Coded, Compact};
 use codec::table::Table;
 use model::vocabulary::Vocabulary;
 
@@ -41,6 +41,10 @@ impl Coded<2> for Switch {
     fn encode(&self) -> [u8; 2] {
         [self.from, self.to]
     }
+}
+
+impl Compact<2> for Switch {
+    ghost small = { Prim.search rules };
 }
 
 // A plant given by its switches. The objects of its vocabulary are the sections. Its predicates, each of one object, are
