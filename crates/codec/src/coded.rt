@@ -40,6 +40,6 @@ pub trait Coded<const WIDTH: usize>: Copy {
 
 // A kind of value of at most 16 bytes, as each kind in this repository is. What is written for all such kinds may count on it.
 pub trait Compact<const WIDTH: usize>: Coded<WIDTH> {
-    // WIDTH is at most 16. The premise, which `fixed` gives, stands there since only what names something of a kind is a law.
+    // WIDTH is at most 16; the premise is what `fixed` says, and docs/DECISIONS.md says why it stands here
     ghost small: { ((x : Self) → length (Self.code x) ≡ WIDTH) → WIDTH ≤ 16 };
 }

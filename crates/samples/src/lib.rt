@@ -1,13 +1,17 @@
-// Sample records as tests: sound ones, damaged ones for each refusal, and the moves of some plants.
+// Sample records as tests: sound ones, damaged ones for each refusal, and the moves of some plants; and values of some kinds.
 #![tactic(auto)]
 
-ghost use Rattle.std.specs.Prelude.{◌≡◌, ℕ};
+ghost use Rattle.std.specs.Prelude.{◌≡◌, ◌-◌, ℕ, true, ◌++◌, replicate};
 ghost use Rattle.samples.specs.Numbers.{Numbered};
 
+use codec::coded::Compact;
+use codec::table::padded;
 use feeder::read::read;
 
 #[cfg(test)]
 mod example;
+#[cfg(test)]
+mod kinds;
 #[cfg(test)]
 mod moves;
 #[cfg(test)]
@@ -27,4 +31,12 @@ pub fn answer(bytes: &[u8]) -> u8
         Ok(_) => 0,
         Err(refusal) => refusal.number(),
     }
+}
+
+// The bytes of a value that a record can hold, in the first of 16 places, and 0 in each place behind them.
+// A kind of at most 16 bytes has room there, so none of them is left out. What it answers for another value is open.
+pub fn in_sixteen<T: Compact<WIDTH>, const WIDTH: usize>(x: &T) -> [u8; 16]
+    ensures { T.Coded.proper x.now ≡ true → result ≡ T.Coded.code x.now ++ replicate (16 - WIDTH) 0 }
+{
+    padded(0, &x.encode())
 }
